@@ -1,0 +1,207 @@
+-- Where both sets are empty, the prices balance, are the least that do, and the first assignment fits and has the highest total. Assumes nothing.
+use Prim.Native.Nat.{ℕ, _+_, suc, _≤_, _<_}
+use mathlib.Core.Path.{_≡_, refl, sym, ap, _∙_, subst}
+use mathlib.Core.Bool.{Bool, true, false, _&&_}
+use mathlib.Core.List.{List}
+use mathlib.Core.Logic.{_⊎_, inl, inr}
+use native.Mathlib.Omega.{arith}
+use native.Mathlib.Nat.{le-antisymm}
+use lib.Dec.{ltb}
+use lib.ListN.{length}
+use native.Mathlib.Decide.{decLe}
+use lib.Seq.{ext-getD}
+use borrow.Author.Tests.{lt-ltb}
+use Rattle.sets.specs.Count.{count}
+use Rattle.sets.specs.Bit.{has}
+use Rattle.sets.specs.Sum.{sum}
+use Rattle.sets.proofs.Counting.{count-mono, count-none, least, Least, and-left}
+use Rattle.sets.proofs.Sums.{sum-zero}
+use Rattle.sets.proofs.Members.{agree, has-zero}
+use Rattle.rule.specs.Sheet.{amount}
+use Rattle.rule.specs.Demand.{demands, wants, nth}
+use Rattle.rule.specs.Excess.{excessDemand, excessSupply, positive}
+use Rattle.sets.specs.Lists.{tabulate}
+use Rattle.sets.proofs.Lists.{tabulate-length, tabulate-at}
+use Rattle.rule.specs.Assignment.{option, isAssignment, fits, total, NotAfter, assignment}
+use Rattle.rule.specs.Equilibrium.{Equilibrium, Below}
+use Rattle.rule.proofs.Limits.{amount-beyond}
+use Rattle.rule.proofs.Union.{Part, likes, Crowd}
+use Rattle.rule.proofs.Overdemand.{sub}
+use Rattle.rule.proofs.Cover.{Sought, Assigned, assigned}
+use Rattle.rule.proofs.Surplus.{wants-use, lowest-prices}
+use Rattle.rule.proofs.Total.{highest}
+use Rattle.rule.proofs.Order.{some-make, choose-passes, choose-first}
+use Rattle.rule.proofs.Fitting.{Fits, assigns-use, fits-use, fits-make, assigns-listed}
+use Rattle.rule.proofs.AtPrices.{bidOf, wanted, wanted-is, demands-length, enough-of-empty, tilde, tilde-crowd, tilde-of-empty}
+
+-- the items of price above 0, as a test
+pub positive-is : (m : ℕ) (p : List ℕ) (i : ℕ) → i < suc m → has (positive m p) i ≡ ltb 0 (amount p i)
+unfolding positive amount
+positive-is m p i l = agree m (λ i. ltb 0 (amount p i)) refl i l
+
+pub positive-at : (m : ℕ) (p : List ℕ) (i : ℕ) → i < suc m → 0 < amount p i → has (positive m p) i ≡ true
+positive-at m p i l h = positive-is m p i l ∙ lt-ltb 0 (amount p i) h
+
+pub amount-null : (p : List ℕ) → amount p 0 ≡ 0
+unfolding amount
+amount-null p = refl
+
+-- ---- fitting, of bidders who demand by their bids
+
+module _ (m : ℕ) (bids : List (List ℕ)) (p : List ℕ) (above : ℕ) (xs : List ℕ) where
+  pub fits-at : fits m above (demands m bids p) xs ≡ true → Fits m (length bids) (wanted m bids p) (has above) xs
+  fits-at e =
+      let len = demands-length m bids p in
+      let f : Fits m (length bids) (λ b. wants (nth (demands m bids p) b)) (has above) xs =
+      subst (λ (n : ℕ). Fits m n (λ b. wants (nth (demands m bids p) b)) (has above) xs) len (fits-use m above (demands m bids p) xs e) in
+      record {
+        assigns = f .assigns;
+        wanted = λ b l. sym (wanted-is m bids p b (option xs b) l (f .assigns .small b l)) ∙ f .wanted b l;
+        covers = f .covers;
+      }
+
+  pub at-fits : Fits m (length bids) (wanted m bids p) (has above) xs → fits m above (demands m bids p) xs ≡ true
+  at-fits f =
+      fits-make m above (demands m bids p) xs
+      (subst (λ (n : ℕ). Fits m n (λ b. wants (nth (demands m bids p) b)) (has above) xs) (sym (demands-length m bids p))
+      (record {
+        assigns = f .assigns;
+        wanted = λ b l. wanted-is m bids p b (option xs b) l (f .assigns .small b l) ∙ f .wanted b l;
+        covers = f .covers;
+      }))
+
+-- ---- where no set is overdemanded and every set of items of `above` is wanted by more bidders than it has items, some assignment fits
+
+module _ (m : ℕ) (bids : List (List ℕ)) (p : List ℕ) (above : ℕ)
+    (no-excess : excessDemand m (demands m bids p) ≡ 0) (no-supply : excessSupply m above (demands m bids p) ≡ 0) where
+  -- each non-empty set of items of `above` is wanted by more bidders than it has items
+  pub crowd-above : (a : ℕ → Bool) → a 0 ≡ false → (i : ℕ) → i < suc m → a i ≡ true → Part m a (has above)
+      → count (suc m) a < count (length bids) (likes m (wanted m bids p) a)
+  unfolding Crowd Part
+  crowd-above a z i l e inside =
+      omega (
+        arith,
+        tilde-crowd m bids p above a z i l e (λ j lj q. tilde-of-empty m bids p above no-supply j lj (inside j lj q)),
+        count-mono (length bids) (λ b. likes m (wanted m bids p) a b && sub m (λ i. wanted m bids p b i && has above i) (tilde m bids p above)) (likes m (wanted m bids p) a)
+            (λ b lb q. and-left (likes m (wanted m bids p) a b) _ q),
+      )
+
+  under : Sought m (length bids) (wanted m bids p) (has above)
+  unfolding Sought Part
+  under a z inside = go (least (suc m) a)
+    where
+      go : Least (suc m) a ⊎ ((i : ℕ) → i < suc m → a i ≡ false) → count (suc m) a ≤ count (length bids) (likes m (wanted m bids p) a)
+      go (inl w) = omega (arith, crowd-above a z (w .at) (w .small) (w .here) inside)
+      go (inr none) = omega (arith, count-none (suc m) a none)
+
+  found : Assigned m (length bids) (wanted m bids p) (has above)
+  found = assigned m (length bids) (wanted m bids p) (has above) (has-zero above) (enough-of-empty m bids p no-excess) under
+
+  list : List ℕ
+  list = tabulate (length bids) (found .to) 0
+
+  list-at : (b : ℕ) → b < length bids → option list b ≡ found .to b
+  unfolding option list
+  list-at b l = tabulate-at (length bids) (found .to) 0 b 0 l ∙ ap (found .to) (omega arith)
+
+  list-fits : fits m above (demands m bids p) list ≡ true
+  list-fits =
+      at-fits m bids p above list
+      (record {
+        assigns = record {
+          all = unfold list in tabulate-length (length bids) (found .to) 0;
+          small = λ b l. subst (λ (x : ℕ). x < suc m) (sym (list-at b l)) (found .small b l);
+          once = λ b c lb lc pos e. found .once b c lb lc (omega (arith, list-at b lb, pos)) (sym (list-at b lb) ∙ e ∙ list-at c lc);
+        };
+        wanted = λ b l. ap (wanted m bids p b) (list-at b l) ∙ found .wanted b l;
+        covers = λ i l u. let w = found .covers i l u in (w .0, w .1, list-at (w .0) (w .1) ∙ w .2);
+      })
+
+  -- the first in order fits
+  pub first-fits : fits m above (demands m bids p) (assignment m above (demands m bids p)) ≡ true
+  unfolding assignment
+  first-fits =
+      choose-passes m (length (demands m bids p)) (fits m above (demands m bids p))
+      (some-make m (length (demands m bids p)) (fits m above (demands m bids p)) list
+      (assigns-listed m (length (demands m bids p)) list (fits-use m above (demands m bids p) list list-fits .assigns)) list-fits) .1
+
+-- ---- the first in order comes before every other that fits
+
+pub first-first : (m above : ℕ) (bids : List (List ℕ)) (p xs : List ℕ) → fits m above (demands m bids p) xs ≡ true → NotAfter (assignment m above (demands m bids p)) xs
+unfolding assignment
+first-first m above bids p xs e =
+    choose-first m (length (demands m bids p)) (fits m above (demands m bids p)) xs
+    (assigns-listed m (length (demands m bids p)) xs (fits-use m above (demands m bids p) xs e .assigns)) e
+
+-- ---- an assignment that fits has the highest total, where `above` has each item above its lower bound, of bids less lower bounds
+
+pub highest-above : (m : ℕ) (bids : List (List ℕ)) (p xs : List ℕ) (above : ℕ) (low : ℕ → ℕ)
+    → ((i : ℕ) → i < suc m → low i ≤ amount p i) → ((i : ℕ) → i < suc m → low i < amount p i → has above i ≡ true)
+    → fits m above (demands m bids p) xs ≡ true → (ys : List ℕ) → isAssignment m (length bids) ys ≡ true
+    → total bids ys + sum (length bids) (λ b. low (option xs b)) ≤ total bids xs + sum (length bids) (λ b. low (option ys b))
+unfolding total bidOf
+highest-above m bids p xs above low low-le is-above e ys a =
+    let f = fits-at m bids p above xs e in
+    let y = assigns-use m (length bids) ys a in
+    highest (length bids) (suc m) (bidOf bids) low (amount p) (amount-null p) low-le (option xs) (f .assigns .small)
+    (λ b j lb lj. wants-use m (bidOf bids) (amount p) b (option xs b) (f .wanted b lb) j lj)
+    (λ i l h. f .covers i l (is-above i l h))
+    (option ys) (y .small) (y .once)
+
+pub highest-total : (m : ℕ) (bids : List (List ℕ)) (p xs : List ℕ) → fits m (positive m p) (demands m bids p) xs ≡ true
+    → (ys : List ℕ) → isAssignment m (length bids) ys ≡ true → total bids ys ≤ total bids xs
+highest-total m bids p xs e ys a =
+    omega (
+      arith,
+      highest-above m bids p xs (positive m p) (λ i. 0) (λ i l. omega arith) (positive-at m p) e ys a,
+      sum-zero (length bids) (λ b. 0) (λ k l. refl),
+    )
+
+-- ---- prices at which both sets are empty are nowhere above prices that balance, where `above` has each item that is cheaper there
+
+module _ (m : ℕ) (bids : List (List ℕ)) (p : List ℕ) (above : ℕ)
+    (no-excess : excessDemand m (demands m bids p) ≡ 0) (no-supply : excessSupply m above (demands m bids p) ≡ 0) where
+  pub least-prices : (q : List ℕ) → ((i : ℕ) → i < suc m → amount q i < amount p i → has above i ≡ true) → Equilibrium m bids q
+      → (i : ℕ) → i < suc m → amount p i ≤ amount q i
+  unfolding Part
+  least-prices q cheaper eq =
+      let f = fits-at m bids q (positive m q) (eq .assigned) (eq .balances) in
+      lowest-prices m (length bids) (bidOf bids) (amount p) (amount q) (amount-null p)
+      (λ a z i l e less. crowd-above m bids p above no-excess no-supply a z i l e (λ j lj u. cheaper j lj (less j lj u)))
+      (option (eq .assigned)) (f .assigns .small) (f .wanted) (f .assigns .once)
+
+-- ---- lists of prices
+
+pub below-all : (m : ℕ) (p q : List ℕ) → length p ≡ m → ((i : ℕ) → i < suc m → amount p i ≤ amount q i) → Below p q
+unfolding Below
+below-all m p q e h i = go (decLe i m)
+  where
+    go : Dec (i ≤ m) → amount p i ≤ amount q i
+    go (yes l) = h i (omega arith)
+    go (no l) = omega (arith, amount-beyond m p e i (omega arith))
+
+pub prices-ext : (m : ℕ) (p q : List ℕ) → length p ≡ m → length q ≡ m → ((i : ℕ) → i < suc m → amount p i ≡ amount q i) → p ≡ q
+unfolding amount
+prices-ext m p q ep eq h = ext-getD 0 p q (ep ∙ sym eq) (λ i l. h (suc i) (omega arith))
+
+-- ---- the closing prices of items of price 0 or more
+
+module _ (m : ℕ) (bids : List (List ℕ)) (p : List ℕ) (len : length p ≡ m)
+    (no-excess : excessDemand m (demands m bids p) ≡ 0) (no-supply : excessSupply m (positive m p) (demands m bids p) ≡ 0) where
+  pub balances : Equilibrium m bids p
+  balances = record { assigned = assignment m (positive m p) (demands m bids p); balances = first-fits m bids p (positive m p) no-excess no-supply }
+
+  -- they are the least prices that balance
+  pub least-balance : (q : List ℕ) → Equilibrium m bids q → Below p q
+  least-balance q eq =
+      below-all m p q len
+      (least-prices m bids p (positive m p) no-excess no-supply q (λ i l h. positive-at m p i l (omega arith)) eq)
+
+  -- and the only ones at which both sets are empty
+  pub only-prices : (q : List ℕ) → length q ≡ m → excessDemand m (demands m bids q) ≡ 0 → excessSupply m (positive m q) (demands m bids q) ≡ 0 → q ≡ p
+  only-prices q lq eq sq =
+      prices-ext m q p lq len
+      (λ i l. le-antisymm
+      (least-prices m bids q (positive m q) eq sq p (λ j lj h. positive-at m q j lj (omega arith)) balances i l)
+      (least-prices m bids p (positive m p) no-excess no-supply q (λ j lj h. positive-at m p j lj (omega arith))
+      (record { assigned = assignment m (positive m q) (demands m bids q); balances = first-fits m bids q (positive m q) eq sq }) i l))

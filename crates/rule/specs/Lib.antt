@@ -1,0 +1,9 @@
+pub mod Sheet
+pub mod Demand
+pub mod Excess
+pub mod Profile
+pub mod Round
+pub mod Assignment
+pub mod Equilibrium
+pub mod Closing
+pub mod Refusal

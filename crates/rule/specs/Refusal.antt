@@ -1,0 +1,37 @@
+-- The numbers that turn a call down, each under its condition, and the first of them in order: document 01, "Turned down by the input" and "Order".
+-- Assumes nothing: these are definitions.
+use Prim.Native.Nat.{ℕ}
+use mathlib.Core.Bool.{Bool, true, false, _||_, not}
+use mathlib.Core.List.{List, [], _∷_}
+use lib.Dec.{ltb, eqb}
+use lib.ListN.{length, getD}
+use Rattle.sets.specs.Count.{anyBelow}
+
+-- a number, and the condition under which it is given
+pub data Refusal : Type 0 where
+  on : (number : ℕ) (applies : Bool) → Refusal
+
+-- the first number whose condition holds, and 0 if none does
+unfoldable pub first : List Refusal → ℕ
+first [] = 0
+first (on n applies ∷ rest) = elim applies [ true ↦ n | false ↦ first rest ]
+
+-- 1: items outside 1 to 32
+unfoldable pub badItems : ℕ → Bool
+badItems m = ltb m 1 || ltb 32 m
+
+-- 2: bidders outside 1 to 64
+unfoldable pub badBidders : ℕ → Bool
+badBidders n = ltb n 1 || ltb 64 n
+
+-- 3: a lent length that is not exact for the counts
+unfoldable pub badLength : List ℕ → ℕ → Bool
+badLength xs n = not (eqb (length xs) n)
+
+-- 4, of the starting prices, and 5, of the bids: one is above 4,095
+unfoldable pub anyOver : List ℕ → Bool
+anyOver xs = anyBelow (length xs) λ k. ltb 4095 (getD xs k 0)
+
+-- 7: a bidder's number b outside 1 to the count n
+unfoldable pub badBidder : ℕ → ℕ → Bool
+badBidder n b = ltb b 1 || ltb n b

@@ -1,0 +1,8 @@
+-- The laws that several proofs cite.
+pub mod Bits
+pub mod Counting
+pub mod Members
+pub mod Laws
+pub mod Sums
+pub mod Largest
+pub mod Lists

@@ -1,0 +1,34 @@
+-- A list by places has as many places as it says, and in each what it says. Assumes nothing.
+use Prim.Native.Nat.{ℕ, zero, suc, _+_, _<_}
+use mathlib.Core.Path.{_≡_, refl, sym, ap, _∙_, subst}
+use mathlib.Core.List.{List}
+use native.Mathlib.Omega.{arith}
+use native.Mathlib.Nat.{not-suc-le-zero, add-zero, zero-add}
+use lib.ListN.{length, getD}
+use lib.Seq.{ext-getD}
+use Rattle.sets.specs.Lists.{tabulate, places}
+
+pub tabulate-length : {A : Type 0} (n : ℕ) (f : ℕ → A) (i : ℕ) → length (tabulate n f i) ≡ n
+unfolding tabulate
+tabulate-length zero f i = refl
+tabulate-length (suc n) f i = ap suc (tabulate-length n f (suc i))
+
+pub tabulate-at : {A : Type 0} (n : ℕ) (f : ℕ → A) (i k : ℕ) (z : A) → k < n → getD (tabulate n f i) k z ≡ f (i + k)
+unfolding tabulate
+tabulate-at zero f i k z l = absurd (not-suc-le-zero l)
+tabulate-at (suc n) f i zero z l = ap f (sym (add-zero i))
+tabulate-at (suc n) f i (suc k) z l = tabulate-at n f (suc i) k z (omega arith) ∙ ap f (omega arith)
+
+pub places-length : (w : ℕ) (xs : List ℕ) → length (places w xs) ≡ w
+unfolding places
+places-length w xs = tabulate-length w (λ k. getD xs k 0) 0
+
+pub places-at : (w : ℕ) (xs : List ℕ) (k : ℕ) → k < w → getD (places w xs) k 0 ≡ getD xs k 0
+unfolding places
+places-at w xs k l = tabulate-at w (λ k. getD xs k 0) 0 k 0 l ∙ ap (λ (j : ℕ). getD xs j 0) (zero-add k)
+
+-- a list of w numbers that has in each place what f says is the list of f
+pub is-tabulate : (w : ℕ) (l : List ℕ) (f : ℕ → ℕ) (i : ℕ) → length l ≡ w → ((k : ℕ) → k < w → getD l k 0 ≡ f (i + k)) → l ≡ tabulate w f i
+is-tabulate w l f i e h =
+    ext-getD 0 l (tabulate w f i) (e ∙ sym (tabulate-length w f i))
+    (λ k lk. h k (subst (λ (n : ℕ). k < n) e lk) ∙ sym (tabulate-at w f i k 0 (subst (λ (n : ℕ). k < n) e lk)))

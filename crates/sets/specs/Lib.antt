@@ -1,0 +1,5 @@
+pub mod Count
+pub mod Bit
+pub mod Sum
+pub mod Largest
+pub mod Lists
