@@ -1,0 +1,14 @@
+-- `sets::with_bidder` meets its contract. Assumes nothing.
+use borrow.Author.Needs.{needs}
+use Rattle.sets.proofs.Words.{word-with}
+use Rattle.sets.proofs.with_bidder.Statement.{statement}
+use Rattle.sets.proofs.with_bidder.Tie as tie
+
+only-bidder-requires : tie.Need-only-bidder-requires
+only-bidder-requires c κs = search needs
+
+returns : tie.Need-returns
+returns c = rw (c .only-bidder .ensures) (word-with 64 (c .before .args .s) (c .before .args .i) (c .before .fits .s .fits))
+
+pub with-bidder-spec : {M : Type 1} → statement M
+with-bidder-spec = tie.close (tie.spec only-bidder-requires returns)
