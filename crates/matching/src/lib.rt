@@ -90,7 +90,7 @@ fn settle(holder: &mut [u8; 32], demand: &[u32; 64]) -> u32
 }
 
 // The largest set in excess demand.
-pub fn short(demand: &[u32; 64]) -> u32
+pub fn excess_demand(demand: &[u32; 64]) -> u32
     ensures { λ r. ⌜ r ≡ largestExcess 32 64 (now (demand .entry)) ⌝ }
 {
     let mut holder = [0u8; 32];
