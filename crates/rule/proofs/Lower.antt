@@ -20,12 +20,11 @@ use Rattle.matching.proofs.Largest.{part-use, part-make, meets-use, meets-make,
 use Rattle.matching.proofs.Wider.{largest-wide}
 use Rattle.rule.specs.Demand.{Demand, wants, nth}
 use Rattle.rule.specs.Excess.{inExcess, excessDemand, positiveExcessDemand}
-use Rattle.rule.specs.Profile.{sole, excessOf, active, inside}
 use Rattle.rule.proofs.Union.{Part, likes, likes-use, Crowd}
 use Rattle.rule.proofs.Overdemand.{sub, sub-use, sub-make, likes-make}
 use Rattle.rule.proofs.Tests.{CrowdOf, crowded-use, crowded-make}
 use Rattle.rule.proofs.Largest.{demand-excess, demand-bound, demand-has}
-use Rattle.rule.proofs.Profile.{wants-sole, rising-profile, positive-profile}
+use Rattle.rule.proofs.Profile.{sole, excessOf, active, inside, wants-sole, rising-profile, positive-profile}
 
 nth-sole : (ws : List ℕ) (b : ℕ) → nth (map sole ws) b ≡ sole (getD ws b 0)
 unfolding nth sole

@@ -1,5 +1,5 @@
--- The rising set and S~ are the largest set in excess demand of item sets: of the bidders who do not demand null, and of the demanded items of `above`.
--- Assumes nothing.
+-- Both sets are one function of item sets, which is all that the lower part, the matching, knows: the rising set is the largest set in excess demand of
+-- the items of the bidders who do not demand null, and S~ that of the demanded items of `above`. PROOFS.md 1.2. Assumes nothing.
 use Prim.Native.Nat.{ℕ, zero, suc, _^_, _<_}
 use mathlib.Core.Path.{_≡_, refl, sym, ap, _∙_, subst}
 use mathlib.Core.Bool.{Bool, true, false, _&&_, cond}
@@ -10,16 +10,31 @@ use lib.Dec.{eqb}
 use lib.ListN.{length, length-map}
 use borrow.Author.Tests.{eqb-true, eq-eqb, ne-eqb}
 use Rattle.sets.specs.Count.{_⇒_}
-use Rattle.sets.specs.Bit.{has, each}
+use Rattle.sets.specs.Bit.{has, setOf, each}
 use Rattle.sets.proofs.Counting.{count-mono, count-witness, and-left, and-right, and-both, not-both, is-false}
 use Rattle.sets.proofs.Members.{set-ext, has-zero, empty-has, agree}
 use Rattle.rule.specs.Demand.{Demand, wants, nth}
 use Rattle.rule.specs.Excess.{crowded, inExcess, excessDemand, positiveExcessDemand}
-use Rattle.rule.specs.Profile.{sole, excessOf, active, inside}
 use Rattle.rule.proofs.Union.{Part, likes, likes-use, Crowd}
 use Rattle.rule.proofs.Overdemand.{sub, sub-use, sub-make, likes-make}
 use Rattle.rule.proofs.Tests.{CrowdOf, crowded-use, crowded-make}
 use Rattle.rule.proofs.Largest.{demand-excess, demand-bound, demand-has, positive-above, positive-crowded, positive-has, positive-make, positive-bound}
+
+-- the demand of an item set; that of the empty one counts nowhere
+unfoldable pub sole : ℕ → Demand
+sole w = record { null = false; items = w }
+
+-- the largest set in excess demand of item sets
+unfoldable pub excessOf : ℕ → List ℕ → ℕ
+excessOf m ws = excessDemand m (map sole ws)
+
+-- a demand's items, or none where null is demanded
+unfoldable pub active : Demand → ℕ
+active d = cond (d .null) 0 (d .items)
+
+-- a demand's items of the set `above`
+unfoldable pub inside : ℕ → ℕ → Demand → ℕ
+inside m above d = setOf m λ i. has (d .items) i && has above i
 
 -- who counts for one profile counts for the other
 crowd-change : (m n : ℕ) (d d′ : ℕ → ℕ → Bool) (c c′ s : ℕ → Bool)

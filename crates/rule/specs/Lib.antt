@@ -1,7 +1,6 @@
 pub mod Sheet
 pub mod Demand
 pub mod Excess
-pub mod Profile
 pub mod Round
 pub mod Assignment
 pub mod Equilibrium
