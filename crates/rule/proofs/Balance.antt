@@ -1,9 +1,8 @@
 -- Where both sets are empty, the prices balance, are the least that do, and the first assignment fits and has the highest total. Assumes nothing.
 use Prim.Native.Nat.{ℕ, _+_, suc, _≤_, _<_}
-use mathlib.Core.Path.{_≡_, refl, sym, ap, _∙_, subst}
+use mathlib.Core.Path.{_≡_, refl, sym, _∙_, subst}
 use mathlib.Core.Bool.{Bool, true, false, _&&_}
 use mathlib.Core.List.{List}
-use mathlib.Core.Logic.{_⊎_, inl, inr}
 use native.Mathlib.Omega.{arith}
 use native.Mathlib.Nat.{le-antisymm}
 use lib.Dec.{ltb}
@@ -14,25 +13,23 @@ use borrow.Author.Tests.{lt-ltb}
 use Rattle.sets.specs.Count.{count}
 use Rattle.sets.specs.Bit.{has}
 use Rattle.sets.specs.Sum.{sum}
-use Rattle.sets.proofs.Counting.{count-mono, count-none, least, Least, and-left}
+use Rattle.sets.proofs.Counting.{count-mono, and-left}
 use Rattle.sets.proofs.Sums.{sum-zero}
-use Rattle.sets.proofs.Members.{agree, has-zero}
+use Rattle.sets.proofs.Members.{agree}
 use Rattle.rule.specs.Sheet.{amount}
 use Rattle.rule.specs.Demand.{demands, wants, nth}
 use Rattle.rule.specs.Excess.{excessDemand, excessSupply, positive}
-use Rattle.sets.specs.Lists.{tabulate}
-use Rattle.sets.proofs.Lists.{tabulate-length, tabulate-at}
 use Rattle.rule.specs.Assignment.{option, isAssignment, fits, total, NotAfter, assignment}
 use Rattle.rule.specs.Equilibrium.{Equilibrium, Below}
 use Rattle.rule.proofs.Limits.{amount-beyond}
 use Rattle.rule.proofs.Union.{Part, likes, Crowd}
 use Rattle.rule.proofs.Overdemand.{sub}
-use Rattle.rule.proofs.Cover.{Sought, Assigned, assigned}
+use Rattle.rule.proofs.Existence.{assignment-fits}
 use Rattle.rule.proofs.Surplus.{wants-use, lowest-prices}
 use Rattle.rule.proofs.Total.{highest}
-use Rattle.rule.proofs.Order.{some-make, choose-passes, choose-first}
+use Rattle.rule.proofs.Order.{choose-first}
 use Rattle.rule.proofs.Fitting.{Fits, assigns-use, fits-use, fits-make, assigns-listed}
-use Rattle.rule.proofs.AtPrices.{bidOf, wanted, wanted-is, demands-length, enough-of-empty, tilde, tilde-crowd, tilde-of-empty}
+use Rattle.rule.proofs.AtPrices.{bidOf, wanted, wanted-is, demands-length, demands-some, demands-small, tilde, tilde-crowd, tilde-of-empty}
 
 -- the items of price above 0, as a test
 pub positive-is : (m : ℕ) (p : List ℕ) (i : ℕ) → i < suc m → has (positive m p) i ≡ ltb 0 (amount p i)
@@ -70,7 +67,7 @@ module _ (m : ℕ) (bids : List (List ℕ)) (p : List ℕ) (above : ℕ) (xs : L
         covers = f .covers;
       }))
 
--- ---- where no set is overdemanded and every set of items of `above` is wanted by more bidders than it has items, some assignment fits
+-- ---- where both sets are empty
 
 module _ (m : ℕ) (bids : List (List ℕ)) (p : List ℕ) (above : ℕ)
     (no-excess : excessDemand m (demands m bids p) ≡ 0) (no-supply : excessSupply m above (demands m bids p) ≡ 0) where
@@ -86,44 +83,10 @@ module _ (m : ℕ) (bids : List (List ℕ)) (p : List ℕ) (above : ℕ)
             (λ b lb q. and-left (likes m (wanted m bids p) a b) _ q),
       )
 
-  under : Sought m (length bids) (wanted m bids p) (has above)
-  unfolding Sought Part
-  under a z inside = go (least (suc m) a)
-    where
-      go : Least (suc m) a ⊎ ((i : ℕ) → i < suc m → a i ≡ false) → count (suc m) a ≤ count (length bids) (likes m (wanted m bids p) a)
-      go (inl w) = omega (arith, crowd-above a z (w .at) (w .small) (w .here) inside)
-      go (inr none) = omega (arith, count-none (suc m) a none)
-
-  found : Assigned m (length bids) (wanted m bids p) (has above)
-  found = assigned m (length bids) (wanted m bids p) (has above) (has-zero above) (enough-of-empty m bids p no-excess) under
-
-  list : List ℕ
-  list = tabulate (length bids) (found .to) 0
-
-  list-at : (b : ℕ) → b < length bids → option list b ≡ found .to b
-  unfolding option list
-  list-at b l = tabulate-at (length bids) (found .to) 0 b 0 l ∙ ap (found .to) (omega arith)
-
-  list-fits : fits m above (demands m bids p) list ≡ true
-  list-fits =
-      at-fits m bids p above list
-      (record {
-        assigns = record {
-          all = unfold list in tabulate-length (length bids) (found .to) 0;
-          small = λ b l. subst (λ (x : ℕ). x < suc m) (sym (list-at b l)) (found .small b l);
-          once = λ b c lb lc pos e. found .once b c lb lc (omega (arith, list-at b lb, pos)) (sym (list-at b lb) ∙ e ∙ list-at c lc);
-        };
-        wanted = λ b l. ap (wanted m bids p b) (list-at b l) ∙ found .wanted b l;
-        covers = λ i l u. let w = found .covers i l u in (w .0, w .1, list-at (w .0) (w .1) ∙ w .2);
-      })
-
   -- the first in order fits
-  pub first-fits : fits m above (demands m bids p) (assignment m above (demands m bids p)) ≡ true
-  unfolding assignment
-  first-fits =
-      choose-passes m (length (demands m bids p)) (fits m above (demands m bids p))
-      (some-make m (length (demands m bids p)) (fits m above (demands m bids p)) list
-      (assigns-listed m (length (demands m bids p)) list (fits-use m above (demands m bids p) list list-fits .assigns)) list-fits) .1
+  pub first-fits : m ≤ 32 → length bids ≤ 64 → fits m above (demands m bids p) (assignment m above (demands m bids p)) ≡ true
+  first-fits lm ln =
+      assignment-fits m above (demands m bids p) lm (omega (arith, demands-length m bids p)) (demands-some m bids p) (demands-small m bids p) no-excess no-supply
 
 -- ---- the first in order comes before every other that fits
 
@@ -186,10 +149,10 @@ prices-ext m p q ep eq h = ext-getD 0 p q (ep ∙ sym eq) (λ i l. h (suc i) (om
 
 -- ---- the closing prices of items of price 0 or more
 
-module _ (m : ℕ) (bids : List (List ℕ)) (p : List ℕ) (len : length p ≡ m)
+module _ (m : ℕ) (bids : List (List ℕ)) (p : List ℕ) (lm : m ≤ 32) (ln : length bids ≤ 64) (len : length p ≡ m)
     (no-excess : excessDemand m (demands m bids p) ≡ 0) (no-supply : excessSupply m (positive m p) (demands m bids p) ≡ 0) where
   pub balances : Equilibrium m bids p
-  balances = record { assigned = assignment m (positive m p) (demands m bids p); balances = first-fits m bids p (positive m p) no-excess no-supply }
+  balances = record { assigned = assignment m (positive m p) (demands m bids p); balances = first-fits m bids p (positive m p) no-excess no-supply lm ln }
 
   -- they are the least prices that balance
   pub least-balance : (q : List ℕ) → Equilibrium m bids q → Below p q
@@ -204,4 +167,4 @@ module _ (m : ℕ) (bids : List (List ℕ)) (p : List ℕ) (len : length p ≡ m
       (λ i l. le-antisymm
       (least-prices m bids q (positive m q) eq sq p (λ j lj h. positive-at m q j lj (omega arith)) balances i l)
       (least-prices m bids p (positive m p) no-excess no-supply q (λ j lj h. positive-at m p j lj (omega arith))
-      (record { assigned = assignment m (positive m q) (demands m bids q); balances = first-fits m bids q (positive m q) eq sq }) i l))
+      (record { assigned = assignment m (positive m q) (demands m bids q); balances = first-fits m bids q (positive m q) eq sq lm ln }) i l))

@@ -1,18 +1,15 @@
 -- The rising set and S~ are in excess demand, hold every set that is, and are the only largest ones. Assumes nothing.
-use Prim.Native.Nat.{ℕ, zero, suc, _^_, _≤_, _<_}
-use mathlib.Core.Path.{_≡_, refl, sym, ap, ap₂, _∙_, subst}
-use mathlib.Core.Bool.{Bool, true, false, _&&_, _||_, not, cond, true≢false}
+use Prim.Native.Nat.{ℕ, suc, _^_, _≤_, _<_}
+use mathlib.Core.Path.{_≡_, refl, sym, ap, ap₂, _∙_}
+use mathlib.Core.Bool.{Bool, true, false, _&&_, _||_, not, true≢false}
 use mathlib.Core.List.{List}
 use mathlib.Core.Logic.{inl, inr}
 use native.Mathlib.Omega.{arith}
-use native.Mathlib.Nat.{not-suc-le-zero, le-refl, lt-irrefl}
-use lib.Dec.{ltb}
+use native.Mathlib.Nat.{lt-irrefl}
 use lib.ListN.{length}
-use lib.Pow.{pow-pos}
-use borrow.Author.Tests.{ltb-true, ltb-false}
 use Rattle.sets.specs.Count.{_⇒_, count}
 use Rattle.sets.specs.Bit.{has, setOf, each, size}
-use Rattle.sets.proofs.Counting.{count-less, and-left, and-right, and-both, imp-use, imp-make, all-use, all-make, or-cases, or-right, below-suc, is-false}
+use Rattle.sets.proofs.Counting.{count-less, and-left, and-right, and-both, imp-use, imp-make, all-use, all-make, or-cases, or-right, is-false, not-both}
 use Rattle.sets.proofs.Members.{setOf-lt, agree, has-zero, empty-has, set-ext, size-count}
 use Rattle.sets.specs.Largest.{largest}
 use Rattle.sets.proofs.Largest.{Largest, largest-is}
@@ -190,6 +187,14 @@ module _ (m above : ℕ) (ds : List Demand) where
   supply-has i l =
       agree m (λ i. has above i && not (has (positiveExcessDemand m above ds) i))
       (ap (λ (x : Bool). x && not (has (positiveExcessDemand m above ds) 0)) (has-zero above)) i l
+
+  -- it is empty where S~ has every item of `above`
+  pub supply-empty : excessSupply m above ds ≡ 0 → (i : ℕ) → i < suc m → has above i ≡ true → has (positiveExcessDemand m above ds) i ≡ true
+  supply-empty e i l h = go (has (positiveExcessDemand m above ds) i) refl
+    where
+      go : (b : Bool) → has (positiveExcessDemand m above ds) i ≡ b → b ≡ true
+      go true q = refl
+      go false q = absurd (not-both (has 0 i) (ap (λ (x : ℕ). has x i) (sym e) ∙ supply-has i l ∙ and-both (has above i) _ h (ap not q)) (empty-has i))
 
   pub supply-bound : excessSupply m above ds < 2 ^ m
   unfolding excessSupply

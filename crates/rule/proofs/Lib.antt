@@ -5,8 +5,6 @@ pub mod Tests
 pub mod Largest
 pub mod Profile
 pub mod Lower
-pub mod Hall
-pub mod Cover
 pub mod Surplus
 pub mod Furthest
 pub mod Total
@@ -15,6 +13,7 @@ pub mod AtPrices
 pub mod Fitting
 pub mod Completion
 pub mod Asking
+pub mod Existence
 pub mod Balance
 pub mod Moves
 pub mod Rising

@@ -1,7 +1,7 @@
 -- What the lower part, the matching, answers is what the definitions ask: the largest sets, and the completion of an assignment. Assumes nothing.
-use Prim.Native.Nat.{ℕ, zero, suc, _+_, _-_, _^_, _≤_, _<_}
+use Prim.Native.Nat.{ℕ, zero, suc, _+_, _^_, _≤_, _<_}
 use mathlib.Core.Path.{_≡_, refl, sym, ap, _∙_, subst, fun-ext}
-use mathlib.Core.Bool.{Bool, true, false, _&&_, cond}
+use mathlib.Core.Bool.{Bool, true, false, _&&_}
 use mathlib.Core.List.{List, [], _∷_, map}
 use mathlib.Core.Logic.{_⊎_, inl, inr}
 use native.Mathlib.Omega.{arith}
@@ -36,7 +36,7 @@ wants-nth : (ws : List ℕ) (b i : ℕ) → wants (nth (map sole ws) b) i ≡ ha
 wants-nth ws b i = ap (λ (x : Demand). wants x i) (nth-sole ws b) ∙ wants-sole (getD ws b 0) i
 
 -- the bits of a set and its items
-item-bit : (s k : ℕ) → has s (suc k) ≡ isSet s k
+pub item-bit : (s k : ℕ) → has s (suc k) ≡ isSet s k
 unfolding has
 item-bit s k = refl
 
@@ -134,11 +134,14 @@ largest-cong m n v w h =
     ap (λ (g : ℕ → ℕ). largest m (λ s. allBelow (2 ^ m) λ t.
     anyBelow m (isSet t) && part m t s ⇒ ltb (size m t) (count n λ b. part m (g b) s && meets m (g b) t))) (fun-ext h)
 
-map-at : (ds : List Demand) (f : Demand → ℕ) (b : ℕ) → b < length ds → getD (map f ds) b 0 ≡ f (nth ds b)
+pub map-at : (ds : List Demand) (f : Demand → ℕ) (b : ℕ) → b < length ds → getD (map f ds) b 0 ≡ f (nth ds b)
 unfolding nth
 map-at [] f b l = absurd (not-suc-le-zero l)
 map-at (d ∷ ds) f zero l = refl
 map-at (d ∷ ds) f (suc b) l = map-at ds f b (le-of-suc-le-suc l)
+
+pub map-past : (ds : List Demand) (f : Demand → ℕ) (b : ℕ) → length ds ≤ b → getD (map f ds) b 0 ≡ 0
+map-past ds f b l = List·getD-eq-default (map f ds) 0 {n = b} (omega (arith, length-map ds f))
 
 module _ (m : ℕ) (ds : List Demand) (f : Demand → ℕ) (w : List ℕ) (lm : m ≤ 32) (ln : length ds ≤ 64)
     (here : (b : ℕ) → b < length ds → getD w b 0 ≡ f (nth ds b)) (past : (b : ℕ) → length ds ≤ b → getD w b 0 ≡ 0)
@@ -148,7 +151,7 @@ module _ (m : ℕ) (ds : List Demand) (f : Demand → ℕ) (w : List ℕ) (lm : 
     where
       go : (b < length ds) ⊎ (length ds ≤ b) → getD w b 0 ≡ getD (map f ds) b 0
       go (inl l) = here b l ∙ sym (map-at ds f b l)
-      go (inr l) = past b l ∙ sym (List·getD-eq-default (map f ds) 0 {n = b} (omega (arith, length-map ds f)))
+      go (inr l) = past b l ∙ sym (map-past ds f b l)
 
   unwanted : (b i : ℕ) → m ≤ i → isSet (getD w b 0) i ≡ false
   unwanted b i l = go (lt-or-le b (length ds))

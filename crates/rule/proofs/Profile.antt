@@ -1,18 +1,22 @@
 -- Both sets are one function of item sets, which is all that the lower part, the matching, knows: the rising set is the largest set in excess demand of
 -- the items of the bidders who do not demand null, and S~ that of the demanded items of `above`. PROOFS.md 1.2. Assumes nothing.
-use Prim.Native.Nat.{ℕ, zero, suc, _^_, _<_}
+use Prim.Native.Nat.{ℕ, zero, suc, _^_, _≤_, _<_}
 use mathlib.Core.Path.{_≡_, refl, sym, ap, _∙_, subst}
 use mathlib.Core.Bool.{Bool, true, false, _&&_, cond}
 use mathlib.Core.List.{List, [], _∷_, map}
+use mathlib.Core.Logic.{_⊎_, inl, inr}
 use native.Mathlib.Omega.{arith}
 use native.Mathlib.Nat.{not-suc-le-zero, le-of-suc-le-suc}
 use lib.Dec.{eqb}
+use lib.Pow.{pow-pos}
 use lib.ListN.{length, length-map}
 use borrow.Author.Tests.{eqb-true, eq-eqb, ne-eqb}
 use Rattle.sets.specs.Count.{_⇒_}
-use Rattle.sets.specs.Bit.{has, setOf, each}
+use Rattle.sets.specs.Bit.{isSet, has, setOf, each}
 use Rattle.sets.proofs.Counting.{count-mono, count-witness, and-left, and-right, and-both, not-both, is-false}
-use Rattle.sets.proofs.Members.{set-ext, has-zero, empty-has, agree}
+use Rattle.sets.proofs.Bits.{lt-or-le}
+use Rattle.sets.proofs.Laws as L
+use Rattle.sets.proofs.Members.{set-ext, setOf-lt, has-setOf, has-zero, empty-has, agree}
 use Rattle.rule.specs.Demand.{Demand, wants, nth}
 use Rattle.rule.specs.Excess.{crowded, inExcess, excessDemand, positiveExcessDemand}
 use Rattle.rule.proofs.Union.{Part, likes, likes-use, Crowd}
@@ -105,9 +109,27 @@ active-same : (d : Demand) → d .null ≡ false → sole (active d) ≡ d
 unfolding sole active
 active-same d e = ap (λ (x : Bool). record { null = false; items = cond x 0 (d .items) }) e ∙ ap (λ (x : Bool). record { null = x; items = d .items }) (sym e)
 
-active-none : (d : Demand) → d .null ≡ true → active d ≡ 0
+pub active-none : (d : Demand) → d .null ≡ true → active d ≡ 0
 unfolding active
 active-none d e = ap (λ (x : Bool). cond x 0 (d .items)) e
+
+pub active-items : (d : Demand) → d .null ≡ false → active d ≡ d .items
+unfolding active
+active-items d e = ap (λ (x : Bool). cond x 0 (d .items)) e
+
+-- what is true of the empty set and of a demand's items is true of its active items
+active-by : (P : ℕ → Type 0) (d : Demand) → P 0 → P (d .items) → P (active d)
+active-by P d none items = go (d .null) refl
+  where
+    go : (b : Bool) → d .null ≡ b → P (active d)
+    go true e = subst P (sym (active-none d e)) none
+    go false e = subst P (sym (active-items d e)) items
+
+pub active-part : (d : Demand) (k : ℕ) → isSet (active d) k ≡ true → isSet (d .items) k ≡ true
+active-part d k = active-by (λ x. isSet x k ≡ true → isSet (d .items) k ≡ true) d (λ e. absurd (not-both (isSet 0 k) e (L.has-zero k))) (λ e. e)
+
+pub active-small : (m : ℕ) (d : Demand) → d .items < 2 ^ m → active d < 2 ^ m
+active-small m d l = active-by (λ x. x < 2 ^ m) d (pow-pos m) l
 
 active-there : (m s : ℕ) (t : ℕ → Bool) (d : Demand) → counted m (only m s) t d ≡ true → counted m (only m s) t (sole (active d)) ≡ true
 unfolding sub wants Part
@@ -150,6 +172,17 @@ module _ (m above : ℕ) where
       no-null true = has-zero above
       no-null false = refl
   inside-wants d (suc k) l = wants-sole (inside m above d) (suc k) ∙ agree m (λ i. has (d .items) i && has above i) (ap (λ (x : Bool). x && has above 0) (has-zero (d .items))) (suc k) l
+
+  pub inside-part : (d : Demand) (k : ℕ) → isSet (inside m above d) k ≡ true → isSet (d .items) k ≡ true
+  unfolding inside has
+  inside-part d k e = go (lt-or-le k m)
+    where
+      go : (k < m) ⊎ (m ≤ k) → isSet (d .items) k ≡ true
+      go (inl l) = and-left (has (d .items) (suc k)) (has above (suc k)) (sym (has-setOf m (λ i. has (d .items) i && has above i) k l) ∙ e)
+      go (inr l) =
+          absurd
+          (not-both (isSet (inside m above d) k) e
+          (L.has-above m (inside m above d) k (setOf-lt m (λ i. has (d .items) i && has above i)) l))
 
   inside-there : (s : ℕ) → Part m (has s) (has above) → (t : ℕ → Bool) → Part m t (has s) → (d : Demand)
       → counted m (onlyAbove s) t d ≡ true → counted m (only m s) t (sole (inside m above d)) ≡ true

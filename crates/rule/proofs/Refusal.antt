@@ -1,6 +1,6 @@
 -- The first number in order: a condition that fails is passed over, and one that holds gives its number. Assumes nothing.
 use Prim.Native.Nat.{ℕ}
-use mathlib.Core.Path.{_≡_, refl, ap}
+use mathlib.Core.Path.{_≡_, ap}
 use mathlib.Core.Bool.{Bool, true, false}
 use mathlib.Core.List.{List, _∷_}
 use Rattle.rule.specs.Refusal.{Refusal, on, first}
