@@ -1,0 +1,66 @@
+-- `live::Auction::with_report` meets its contract. Assumes nothing.
+use mathlib.Core.Path.{_≡_, refl, ap, sym, _∙_}
+use mathlib.Core.Bool.{Bool, true, false, _&&_, _||_}
+use Prim.Native.Nat.{ℕ, suc, _-_, _≤_}
+use native.Mathlib.Omega.{arith}
+use lib.Dec.{eqb}
+use lib.ListN.{set}
+use Rattle.sets.specs.Bit.{has, setOf}
+use Rattle.live.specs.Calls.{withReport, saying}
+use Rattle.live.proofs.Parts.{by-parts}
+use borrow.Author.Needs.{needs}
+use Rattle.live.proofs.Auction.with_report.Statement.{statement}
+use Rattle.live.proofs.Auction.with_report.Tie as tie
+use Rattle.live.proofs.Auction.with_report.Reads as reads
+use Rattle.live.proofs.Auction.with_report.Lts as lts
+use Rattle.live.proofs.nulls_with.Reads as nulls-with-reads
+use Rattle.sets.proofs.with_bidder.Reads as with-bidder-reads
+
+sub-k : tie.Need-sub-k
+sub-k c = search needs
+
+mul-next : tie.Need-mul-next
+mul-next c = search needs
+
+element-write-next : tie.Need-element-write-next
+element-write-next c = search needs
+
+nulls-with-requires : tie.Need-nulls-with-requires
+nulls-with-requires c κs = search needs
+
+with-bidder-requires : tie.Need-with-bidder-requires
+with-bidder-requires c κs = search needs
+
+returns : tie.Need-returns
+unfolding withReport saying
+returns c =
+    let r = c .before .before .args .self in
+    let b = c .before .before .args .bidder in
+    let n = c .before .before .args .null in
+    let new = c .before .before .args .set in
+    by-parts
+    (record {
+      items = r .items;
+      bidders = r .bidders;
+      prices = r .prices;
+      sets = set (r .sets) (b - 1) new;
+      nulls = c .before .nulls-with .result;
+      reported = c .with-bidder .result;
+      phase = r .phase;
+      raised = r .raised;
+      lowered = r .lowered;
+    })
+    (withReport r b (saying n new)) refl refl refl refl
+    (c .before .nulls-with .ensures)
+    (c .with-bidder .ensures) refl refl refl
+
+pub with-report-spec : {M : Type 1} → statement M
+with-report-spec =
+    tie.close
+    (tie.spec
+    sub-k
+    mul-next
+    element-write-next
+    nulls-with-requires
+    with-bidder-requires
+    returns)

@@ -1,0 +1,5 @@
+pub mod Loops
+pub mod Unused
+pub mod Places
+pub mod Parts
+pub mod Opening

@@ -1,0 +1,106 @@
+-- The ways of an opening. Assumes nothing.
+use mathlib.Core.Path.{_≡_, refl, ap, sym, _∙_}
+use mathlib.Core.Bool.{Bool, true, false, _||_, not}
+use mathlib.Core.List.{List, [], _∷_}
+use Prim.Native.Nat.{ℕ, zero, suc, _≤_, _<_}
+use lib.Dec.{ltb, eqb}
+use lib.ListN.{length, replicate}
+use borrow.Author.Tests.{lt-ltb, le-ltb, eq-eqb, ne-eqb}
+use Rattle.sets.specs.Lists.{places}
+use Rattle.rule.specs.Refusal.{on, first, badItems, badBidders, badLength, anyOver}
+use Rattle.rule.proofs.Refusal.{passed, given}
+use Rattle.live.specs.declared.Phase.the-variants.{Rising}
+use Rattle.live.specs.Calls.{openNumber, opened, unopened, openAuction}
+use Rattle.live.specs.declared.Reply.{Reply}
+
+-- ---- counts within 1 and 2
+
+pub few-items : (m : ℕ) → m < 1 → badItems m ≡ true
+unfolding badItems
+few-items m l = ap (λ (x : Bool). x || ltb 32 m) (lt-ltb m 1 l)
+
+pub many-items : (m : ℕ) → 1 ≤ m → 32 < m → badItems m ≡ true
+unfolding badItems
+many-items m l h = ap (λ (x : Bool). x || ltb 32 m) (le-ltb m 1 l) ∙ lt-ltb 32 m h
+
+pub good-items : (m : ℕ) → 1 ≤ m → m ≤ 32 → badItems m ≡ false
+unfolding badItems
+good-items m l h = ap (λ (x : Bool). x || ltb 32 m) (le-ltb m 1 l) ∙ le-ltb 32 m h
+
+pub few-bidders : (n : ℕ) → n < 1 → badBidders n ≡ true
+unfolding badBidders
+few-bidders n l = ap (λ (x : Bool). x || ltb 64 n) (lt-ltb n 1 l)
+
+pub many-bidders : (n : ℕ) → 1 ≤ n → 64 < n → badBidders n ≡ true
+unfolding badBidders
+many-bidders n l h = ap (λ (x : Bool). x || ltb 64 n) (le-ltb n 1 l) ∙ lt-ltb 64 n h
+
+pub good-bidders : (n : ℕ) → 1 ≤ n → n ≤ 64 → badBidders n ≡ false
+unfolding badBidders
+good-bidders n l h = ap (λ (x : Bool). x || ltb 64 n) (le-ltb n 1 l) ∙ le-ltb 64 n h
+
+-- ---- the number
+
+first-nil : first [] ≡ 0
+unfolding first
+first-nil = refl
+
+module _ (m n : ℕ) (start : List ℕ) where
+  by-number : (x : ℕ) → openNumber m n start ≡ suc x → openAuction m n start ≡ unopened (suc x)
+  unfolding openAuction
+  by-number x e = ap (λ (y : ℕ). elim y [ zero ↦ record { number = 0; next = opened m n start } | suc j ↦ unopened (suc j) ]) e
+
+  pub one : badItems m ≡ true → openAuction m n start ≡ unopened 1
+  unfolding openNumber
+  one e = by-number 0 (given 1 (badItems m) _ e)
+
+  module _ (a : badItems m ≡ false) where
+    pub two : badBidders n ≡ true → openAuction m n start ≡ unopened 2
+    unfolding openNumber
+    two e = by-number 1 (passed 1 (badItems m) _ a ∙ given 2 (badBidders n) _ e)
+
+    module _ (b : badBidders n ≡ false) where
+      past-two : openNumber m n start ≡ first (on 3 (badLength start m) ∷ on 4 (anyOver start) ∷ [])
+      unfolding openNumber
+      past-two = passed 1 (badItems m) _ a ∙ passed 2 (badBidders n) _ b
+
+      pub three : (length start ≡ m → ⊥) → openAuction m n start ≡ unopened 3
+      unfolding badLength
+      three ne = by-number 2 (past-two ∙ given 3 (badLength start m) _ (ap not (ne-eqb (length start) m ne)))
+
+      module _ (e : length start ≡ m) where
+        past-three : openNumber m n start ≡ first (on 4 (anyOver start) ∷ [])
+        unfolding badLength
+        past-three = past-two ∙ passed 3 (badLength start m) _ (ap not (eq-eqb (length start) m e))
+
+        pub four : anyOver start ≡ true → openAuction m n start ≡ unopened 4
+        four q = by-number 3 (past-three ∙ given 4 (anyOver start) [] q)
+
+        pub no-number : anyOver start ≡ false → openNumber m n start ≡ 0
+        no-number q = past-three ∙ passed 4 (anyOver start) [] q ∙ first-nil
+
+        pub accepts : anyOver start ≡ false → openAuction m n start ≡ record { number = 0; next = opened m n start }
+        unfolding openAuction
+        accepts q = ap (λ (y : ℕ). elim y [ zero ↦ record { number = 0; next = opened m n start } | suc j ↦ unopened (suc j) ]) (no-number q)
+
+        pub accepts-with : (p : List ℕ) → p ≡ places 32 start → anyOver start ≡ false
+            → _≡_ {A = Reply} (record {
+              number = 0;
+              next = record {
+                items = m;
+                bidders = n;
+                prices = p;
+                sets = replicate 64 0;
+                nulls = 0;
+                reported = 0;
+                phase = Rising;
+                raised = 0;
+                lowered = 0;
+              };
+            }) (openAuction m n start)
+        unfolding opened
+        accepts-with p h q =
+            ap (λ (x : List ℕ). record {
+              number = 0;
+              next = record { items = m; bidders = n; prices = x; sets = replicate 64 0; nulls = 0; reported = 0; phase = Rising; raised = 0; lowered = 0 };
+            }) h ∙ sym (accepts q)
