@@ -14,7 +14,7 @@ use Rattle.sets.proofs.Members.{setOf-lt, agree, has-zero, empty-has, set-ext, 
 use Rattle.sets.specs.Largest.{largest}
 use Rattle.sets.proofs.Largest.{Largest, largest-is}
 use Rattle.rule.specs.Demand.{Demand, wants, nth}
-use Rattle.rule.specs.Excess.{crowded, inExcess, inPositiveExcess, excessDemand, positiveExcessDemand, excessSupply}
+use Rattle.rule.specs.Excess.{nothingAboveOutside, crowded, inExcess, inPositiveExcess, excessDemand, positiveExcessDemand, excessSupply}
 use Rattle.rule.proofs.Union.{Part, Crowd, union}
 use Rattle.rule.proofs.Tests.{CrowdOf, crowded-use, crowded-make}
 
@@ -139,7 +139,7 @@ module _ (m above : ℕ) (ds : List Demand) where
     and-right (each m λ i. has s i ⇒ has above i) _ e,
   )
 
-  pub positive-make : (s : ℕ) → ((i : ℕ) → i < suc m → has s i ≡ true → has above i ≡ true) → crowded m ds (λ d. each m λ i. wants d i && has above i ⇒ has s i) s ≡ true
+  pub positive-make : (s : ℕ) → ((i : ℕ) → i < suc m → has s i ≡ true → has above i ≡ true) → crowded m ds (nothingAboveOutside m above s) s ≡ true
       → inPositiveExcess m above ds s ≡ true
   unfolding inPositiveExcess each
   positive-make s inside e =
@@ -168,7 +168,7 @@ module _ (m above : ℕ) (ds : List Demand) where
   pub positive-above : (i : ℕ) → i < suc m → has (positiveExcessDemand m above ds) i ≡ true → has above i ≡ true
   positive-above = positive-use (positiveExcessDemand m above ds) positive-excess .0
 
-  pub positive-crowded : crowded m ds (λ d. each m λ i. wants d i && has above i ⇒ has (positiveExcessDemand m above ds) i) (positiveExcessDemand m above ds) ≡ true
+  pub positive-crowded : crowded m ds (nothingAboveOutside m above (positiveExcessDemand m above ds)) (positiveExcessDemand m above ds) ≡ true
   positive-crowded = positive-use (positiveExcessDemand m above ds) positive-excess .1
 
   -- it holds every set in positive excess demand

@@ -9,7 +9,7 @@ use native.Mathlib.Nat.{not-suc-le-zero, le-of-suc-le-suc}
 use lib.Dec.{ltb}
 use lib.ListN.{length, getD, length-map, List·getD-eq-default}
 use Rattle.sets.specs.Count.{_⇒_, allBelow, anyBelow, count}
-use Rattle.sets.specs.Bit.{isSet, has, setOf, each, size}
+use Rattle.sets.specs.Bit.{isSet, has, setOf, size}
 use Rattle.sets.specs.Largest.{largest}
 use Rattle.sets.proofs.Counting.{count-mono, count-cong, count-first, and-left, and-right, and-both, not-both}
 use Rattle.sets.proofs.Members.{has-zero, agree, setOf-lt}
@@ -19,7 +19,7 @@ use Rattle.matching.specs.Demand.{part, meets, excess, largestExcess}
 use Rattle.matching.proofs.Largest.{part-use, part-make, meets-use, meets-make, wanting, excess-use, excess-make, is-largest}
 use Rattle.matching.proofs.Wider.{largest-wide}
 use Rattle.rule.specs.Demand.{Demand, wants, nth}
-use Rattle.rule.specs.Excess.{inExcess, excessDemand, positiveExcessDemand}
+use Rattle.rule.specs.Excess.{nothingOutside, inExcess, excessDemand, positiveExcessDemand}
 use Rattle.rule.proofs.Union.{Part, likes, likes-use, Crowd}
 use Rattle.rule.proofs.Overdemand.{sub, sub-use, sub-make, likes-make}
 use Rattle.rule.proofs.Tests.{CrowdOf, crowded-use, crowded-make}
@@ -46,7 +46,7 @@ items-count m s = let e : count (suc m) (has s) ≡ 0 + count m (isSet s) = coun
 
 module _ (m : ℕ) (ws : List ℕ) (s : ℕ) where
   abbrev counts : ℕ → Bool
-  counts b = each m λ i. wants (nth (map sole ws) b) i ⇒ has s i
+  counts b = nothingOutside m s (nth (map sole ws) b)
 
   abbrev demands : ℕ → ℕ → Bool
   demands b = wants (nth (map sole ws) b)
@@ -83,7 +83,7 @@ module _ (m : ℕ) (ws : List ℕ) (s : ℕ) where
   unfolding inExcess CrowdOf Crowd Part
   excess-there e =
       excess-make m (length ws) ws s (λ t i li h part.
-      let more = crowded-use m (map sole ws) (λ d. each m λ i. wants d i ⇒ has s i) s e (has t) (has-zero t) (suc i) (omega arith) (item-bit t i ∙ h) (inner t part) in
+      let more = crowded-use m (map sole ws) (nothingOutside m s) s e (has t) (has-zero t) (suc i) (omega arith) (item-bit t i ∙ h) (inner t part) in
       let all = count-mono (length ws) (λ b. likes m demands (has t) b && counts b) (wanting m ws s t) (λ b lb. there t b) in
       let len : length (map sole ws) ≡ length ws = length-map ws sole in
       let more′ = subst (λ (n : ℕ). count (suc m) (has t) < count n (λ b. likes m demands (has t) b && counts b)) len more in
@@ -96,7 +96,7 @@ module _ (m : ℕ) (ws : List ℕ) (s : ℕ) where
   pub excess-back : excess m (length ws) ws s ≡ true → inExcess m (map sole ws) s ≡ true
   unfolding inExcess CrowdOf Crowd Part
   excess-back e =
-      crowded-make m (map sole ws) (λ d. each m λ i. wants d i ⇒ has s i) s (λ t z i l ti part.
+      crowded-make m (map sole ws) (nothingOutside m s) s (λ t z i l ti part.
       let u : ℕ = setOf m t in
       let at : (j : ℕ) → j < suc m → has u j ≡ t j = agree m t z in
       let more = go u (setOf-lt m t) i l (at i l ∙ ti) (λ j lj h. part j lj (sym (at j lj) ∙ h)) in

@@ -11,14 +11,13 @@ use lib.Dec.{eqb}
 use lib.Pow.{pow-pos}
 use lib.ListN.{length, length-map}
 use borrow.Author.Tests.{eqb-true, eq-eqb, ne-eqb}
-use Rattle.sets.specs.Count.{_⇒_}
-use Rattle.sets.specs.Bit.{isSet, has, setOf, each}
+use Rattle.sets.specs.Bit.{isSet, has, setOf}
 use Rattle.sets.proofs.Counting.{count-mono, count-witness, and-left, and-right, and-both, not-both, is-false}
 use Rattle.sets.proofs.Bits.{lt-or-le}
 use Rattle.sets.proofs.Laws as L
 use Rattle.sets.proofs.Members.{set-ext, setOf-lt, has-setOf, has-zero, empty-has, agree}
 use Rattle.rule.specs.Demand.{Demand, wants, nth}
-use Rattle.rule.specs.Excess.{crowded, inExcess, excessDemand, positiveExcessDemand}
+use Rattle.rule.specs.Excess.{nothingOutside, nothingAboveOutside, crowded, inExcess, excessDemand, positiveExcessDemand}
 use Rattle.rule.proofs.Union.{Part, likes, likes-use, Crowd}
 use Rattle.rule.proofs.Overdemand.{sub, sub-use, sub-make, likes-make}
 use Rattle.rule.proofs.Tests.{CrowdOf, crowded-use, crowded-make}
@@ -99,10 +98,6 @@ module _ (m : ℕ) (ds : List Demand) (f : Demand → ℕ) (s : ℕ) (counts cou
       (subst (λ (n : ℕ). Crowd m n (λ b. wants (nth (map sole (map f ds)) b)) (λ b. counts′ (nth (map sole (map f ds)) b)) (has s)) (others-length ds f)
       (crowded-use m (map sole (map f ds)) counts′ s e)))
 
--- who counts for s in excess demand
-abbrev only : ℕ → ℕ → Demand → Bool
-only m s d = each m λ i. wants d i ⇒ has s i
-
 -- ---- the rising set: a bidder who demands null counts nowhere, and any other by their items
 
 active-same : (d : Demand) → d .null ≡ false → sole (active d) ≡ d
@@ -131,19 +126,19 @@ active-part d k = active-by (λ x. isSet x k ≡ true → isSet (d .items) k ≡
 pub active-small : (m : ℕ) (d : Demand) → d .items < 2 ^ m → active d < 2 ^ m
 active-small m d l = active-by (λ x. x < 2 ^ m) d (pow-pos m) l
 
-active-there : (m s : ℕ) (t : ℕ → Bool) (d : Demand) → counted m (only m s) t d ≡ true → counted m (only m s) t (sole (active d)) ≡ true
+active-there : (m s : ℕ) (t : ℕ → Bool) (d : Demand) → counted m (nothingOutside m s) t d ≡ true → counted m (nothingOutside m s) t (sole (active d)) ≡ true
 unfolding sub wants Part
 active-there m s t d q = go (d .null) refl
   where
-    go : (b : Bool) → d .null ≡ b → counted m (only m s) t (sole (active d)) ≡ true
-    go false e = subst (λ (x : Demand). counted m (only m s) t x ≡ true) (sym (active-same d e)) q
+    go : (b : Bool) → d .null ≡ b → counted m (nothingOutside m s) t (sole (active d)) ≡ true
+    go false e = subst (λ (x : Demand). counted m (nothingOutside m s) t x ≡ true) (sym (active-same d e)) q
     go true e = absurd (not-both (has s 0) (sub-use m (wants d) (has s) (and-right (likes m (λ b. wants d) t 0) _ q) 0 (omega arith) e) (has-zero s))
 
-active-back : (m s : ℕ) (t : ℕ → Bool) (d : Demand) → counted m (only m s) t (sole (active d)) ≡ true → counted m (only m s) t d ≡ true
+active-back : (m s : ℕ) (t : ℕ → Bool) (d : Demand) → counted m (nothingOutside m s) t (sole (active d)) ≡ true → counted m (nothingOutside m s) t d ≡ true
 active-back m s t d q = go (d .null) refl
   where
-    go : (b : Bool) → d .null ≡ b → counted m (only m s) t d ≡ true
-    go false e = subst (λ (x : Demand). counted m (only m s) t x ≡ true) (active-same d e) q
+    go : (b : Bool) → d .null ≡ b → counted m (nothingOutside m s) t d ≡ true
+    go false e = subst (λ (x : Demand). counted m (nothingOutside m s) t x ≡ true) (active-same d e) q
     go true e =
         let w = likes-use m (λ b. wants (sole (active d))) t 0 (and-left (likes m (λ b. wants (sole (active d))) t 0) _ q) in
         absurd (not-both (has 0 (w .0)) (ap (λ (x : ℕ). has x (w .0)) (sym (active-none d e)) ∙ sym (wants-sole (active d) (w .0)) ∙ w .2) (empty-has (w .0)))
@@ -153,17 +148,14 @@ unfolding excessOf inExcess
 rising-profile m ds =
     same-set m (excessDemand m ds) (excessDemand m (map sole (map active ds))) (demand-bound m ds) (demand-bound m (map sole (map active ds)))
     (demand-has m (map sole (map active ds)) (excessDemand m ds)
-    (there m ds active (excessDemand m ds) (only m (excessDemand m ds)) (only m (excessDemand m ds)) (λ t part. active-there m (excessDemand m ds) t) (demand-excess m ds)))
+    (there m ds active (excessDemand m ds) (nothingOutside m (excessDemand m ds)) (nothingOutside m (excessDemand m ds)) (λ t part. active-there m (excessDemand m ds) t) (demand-excess m ds)))
     (demand-has m ds (excessDemand m (map sole (map active ds)))
-    (back m ds active (excessDemand m (map sole (map active ds))) (only m (excessDemand m (map sole (map active ds)))) (only m (excessDemand m (map sole (map active ds))))
+    (back m ds active (excessDemand m (map sole (map active ds))) (nothingOutside m (excessDemand m (map sole (map active ds)))) (nothingOutside m (excessDemand m (map sole (map active ds))))
     (λ t part. active-back m (excessDemand m (map sole (map active ds))) t) (demand-excess m (map sole (map active ds)))))
 
 -- ---- S~: a bidder counts by their items of `above`
 
 module _ (m above : ℕ) where
-  abbrev onlyAbove : ℕ → Demand → Bool
-  onlyAbove s d = each m λ i. wants d i && has above i ⇒ has s i
-
   inside-wants : (d : Demand) (i : ℕ) → i < suc m → wants (sole (inside m above d)) i ≡ wants d i && has above i
   unfolding inside wants
   inside-wants d zero l = wants-sole (inside m above d) 0 ∙ has-zero (inside m above d) ∙ sym (no-null (d .null))
@@ -185,7 +177,7 @@ module _ (m above : ℕ) where
           (L.has-above m (inside m above d) k (setOf-lt m (λ i. has (d .items) i && has above i)) l))
 
   inside-there : (s : ℕ) → Part m (has s) (has above) → (t : ℕ → Bool) → Part m t (has s) → (d : Demand)
-      → counted m (onlyAbove s) t d ≡ true → counted m (only m s) t (sole (inside m above d)) ≡ true
+      → counted m (nothingAboveOutside m above s) t d ≡ true → counted m (nothingOutside m s) t (sole (inside m above d)) ≡ true
   unfolding sub Part
   inside-there s up t part d q =
       let w = likes-use m (λ b. wants d) t 0 (and-left (likes m (λ b. wants d) t 0) _ q) in
@@ -195,7 +187,7 @@ module _ (m above : ℕ) where
       (sub-make m (wants (sole (inside m above d))) (has s)
       (λ i l e. sub-use m (λ i. wants d i && has above i) (has s) (and-right (likes m (λ b. wants d) t 0) _ q) i l (sym (inside-wants d i l) ∙ e)))
 
-  inside-back : (s : ℕ) (t : ℕ → Bool) (d : Demand) → counted m (only m s) t (sole (inside m above d)) ≡ true → counted m (onlyAbove s) t d ≡ true
+  inside-back : (s : ℕ) (t : ℕ → Bool) (d : Demand) → counted m (nothingOutside m s) t (sole (inside m above d)) ≡ true → counted m (nothingAboveOutside m above s) t d ≡ true
   unfolding sub Part
   inside-back s t d q =
       let w = likes-use m (λ b. wants (sole (inside m above d))) t 0 (and-left (likes m (λ b. wants (sole (inside m above d))) t 0) _ q) in
@@ -209,7 +201,7 @@ module _ (m above : ℕ) where
     sets = map sole (map (inside m above) ds)
 
     -- an item of a set in excess demand is demanded
-    sets-above : (s : ℕ) → crowded m (map sole (map (inside m above) ds)) (only m s) s ≡ true → Part m (has s) (has above)
+    sets-above : (s : ℕ) → crowded m (map sole (map (inside m above) ds)) (nothingOutside m s) s ≡ true → Part m (has s) (has above)
     unfolding CrowdOf Crowd Part
     sets-above s c i l e =
         and-right (wants (nth ds (w .0)) i) (has above i)
@@ -221,10 +213,10 @@ module _ (m above : ℕ) where
         t : ℕ → Bool
         t j = eqb j i
 
-        w : (b : ℕ) × (b < length sets) × (likes m (λ b. wants (nth sets b)) t b && only m s (nth sets b) ≡ true)
+        w : (b : ℕ) × (b < length sets) × (likes m (λ b. wants (nth sets b)) t b && nothingOutside m s (nth sets b) ≡ true)
         w =
-            count-witness (length sets) (λ b. likes m (λ b. wants (nth sets b)) t b && only m s (nth sets b))
-            (omega (arith, crowded-use m sets (only m s) s c t (ne-eqb 0 i (λ z. item (sym z))) i l (eq-eqb i i refl) (λ j lj q. subst (λ (x : ℕ). has s x ≡ true) (sym (eqb-true j i q)) e)))
+            count-witness (length sets) (λ b. likes m (λ b. wants (nth sets b)) t b && nothingOutside m s (nth sets b))
+            (omega (arith, crowded-use m sets (nothingOutside m s) s c t (ne-eqb 0 i (λ z. item (sym z))) i l (eq-eqb i i refl) (λ j lj q. subst (λ (x : ℕ). has s x ≡ true) (sym (eqb-true j i q)) e)))
 
         wants-i : wants (nth sets (w .0)) i ≡ true
         wants-i =
@@ -235,10 +227,10 @@ module _ (m above : ℕ) where
     unfolding excessOf inExcess Part
     positive-profile =
         same-set m st x (positive-bound m above ds) (demand-bound m sets)
-        (demand-has m sets st (there m ds (inside m above) st (onlyAbove st) (only m st) (inside-there st (positive-above m above ds)) (positive-crowded m above ds)))
+        (demand-has m sets st (there m ds (inside m above) st (nothingAboveOutside m above st) (nothingOutside m st) (inside-there st (positive-above m above ds)) (positive-crowded m above ds)))
         (positive-has m above ds x
         (positive-make m above ds x (sets-above x (demand-excess m sets))
-        (back m ds (inside m above) x (onlyAbove x) (only m x) (λ t part. inside-back x t) (demand-excess m sets))))
+        (back m ds (inside m above) x (nothingAboveOutside m above x) (nothingOutside m x) (λ t part. inside-back x t) (demand-excess m sets))))
       where
         st : ℕ
         st = positiveExcessDemand m above ds

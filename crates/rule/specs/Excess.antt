@@ -1,4 +1,5 @@
--- Sets in excess demand, the rising set, S~ and the falling set of document 01. Assumes nothing: these are definitions.
+-- The rising set, S~ and the falling set: document 01, "The rule of a round"; section 3 of the paper. The size of a set and the largest set that passes
+-- a test are in `sets`. Assumes nothing: these are definitions.
 use Prim.Native.Nat.{ℕ, _^_}
 use mathlib.Core.Bool.{Bool, _&&_, not}
 use mathlib.Core.List.{List}
@@ -10,40 +11,54 @@ use Rattle.sets.specs.Largest.{largest}
 use Rattle.rule.specs.Sheet.{amount}
 use Rattle.rule.specs.Demand.{Demand, wants, nth}
 
--- how many bidders' demands pass the test
+-- how many bidders (rakers) have a demand that passes the test
 unfoldable pub bidders : List Demand → (Demand → Bool) → ℕ
 bidders ds f = count (length ds) λ b. f (nth ds b)
 
--- for each non-empty part t of s: more of the bidders that count than t has items demand something in t
+-- t is a non-empty part of s
+abbrev pub nonEmptyPart : ℕ → ℕ → ℕ → Bool
+nonEmptyPart m t s = any m (has t) && each m (λ i. has t i ⇒ has s i)
+
+-- something in t is demanded: the paper's U(T, p)
+abbrev pub somethingIn : ℕ → ℕ → Demand → Bool
+somethingIn m t d = any m λ i. wants d i && has t i
+
+-- nothing outside s is demanded; null (no pan) lies outside every s. The paper's O(S, p)
+abbrev pub nothingOutside : ℕ → ℕ → Demand → Bool
+nothingOutside m s d = each m λ i. wants d i ⇒ has s i
+
+-- the demanded items of the set `above` all lie in s. The paper's O⁺(S, p), where `above` are the items of price above 0
+abbrev pub nothingAboveOutside : ℕ → ℕ → ℕ → Demand → Bool
+nothingAboveOutside m above s d = each m λ i. wants d i && has above i ⇒ has s i
+
+-- for each non-empty part t of s, more of the bidders who count than t has items demand something in t
 unfoldable pub crowded : ℕ → List Demand → (Demand → Bool) → ℕ → Bool
 crowded m ds counts s =
-    allBelow (2 ^ m) λ t.
-    any m (has t) && each m (λ i. has t i ⇒ has s i)
-    ⇒ ltb (size m t) (bidders ds λ d. any m (λ i. wants d i && has t i) && counts d)
+    allBelow (2 ^ m) λ t. nonEmptyPart m t s ⇒ ltb (size m t) (bidders ds λ d. somethingIn m t d && counts d)
 
--- s is in excess demand: a bidder counts who demands nothing outside s; null lies outside every s
+-- s is in excess demand: for each non-empty part t of s, more bidders than t has items both demand something in t and demand nothing outside s.
+-- Definition 4 of the paper
 unfoldable pub inExcess : ℕ → List Demand → ℕ → Bool
-inExcess m ds s = crowded m ds (λ d. each m λ i. wants d i ⇒ has s i) s
+inExcess m ds s = crowded m ds (nothingOutside m s) s
 
--- s is in positive excess demand: the same with the items of the set `above` only. s holds such items, and a bidder counts
--- whose demanded items of `above` all lie in s
-unfoldable pub inPositiveExcess : ℕ → ℕ → List Demand → ℕ → Bool
-inPositiveExcess m above ds s =
-    each m (λ i. has s i ⇒ has above i)
-    && crowded m ds (λ d. each m λ i. wants d i && has above i ⇒ has s i) s
-
--- the rising set: the largest set in excess demand
+-- the rising set: the largest set in excess demand, empty if there is none. The paper's E*
 unfoldable pub excessDemand : ℕ → List Demand → ℕ
 excessDemand m ds = largest m (inExcess m ds)
 
--- S~: the largest set in positive excess demand
+-- the items (pans) of price (rent) above 0: the paper's I⁺(p)
+unfoldable pub positive : ℕ → List ℕ → ℕ
+positive m prices = setOf m λ i. ltb 0 (amount prices i)
+
+-- the same with the items of `above` only: s holds such items, and a bidder counts whose demanded items of `above` all lie in s. Definition 5 of the
+-- paper, positive excess demand
+unfoldable pub inPositiveExcess : ℕ → ℕ → List Demand → ℕ → Bool
+inPositiveExcess m above ds s =
+    each m (λ i. has s i ⇒ has above i) && crowded m ds (nothingAboveOutside m above s) s
+
+-- S~: the largest such set
 unfoldable pub positiveExcessDemand : ℕ → ℕ → List Demand → ℕ
 positiveExcessDemand m above ds = largest m (inPositiveExcess m above ds)
 
--- the falling set: every item of `above` that is not in S~
+-- the falling set: every item of `above` that is not in S~. Definition 6 of the paper, excess supply; its S*
 unfoldable pub excessSupply : ℕ → ℕ → List Demand → ℕ
 excessSupply m above ds = let s : ℕ = positiveExcessDemand m above ds in setOf m λ i. has above i && not (has s i)
-
--- the items of price above 0
-unfoldable pub positive : ℕ → List ℕ → ℕ
-positive m prices = setOf m λ i. ltb 0 (amount prices i)

@@ -1,4 +1,4 @@
--- A round and the path: document 01, "Rising first". Assumes nothing: these are definitions.
+-- A round and the path: document 01, "The rule of a round", from "Rising first" on; algorithm 1 of the paper. Assumes nothing: these are definitions.
 use Prim.Native.Nat.{ℕ, zero, suc, _+_, _-_}
 use mathlib.Core.List.{List}
 use Rattle.sets.specs.Count.{toNat}
@@ -8,60 +8,67 @@ use Rattle.rule.specs.Sheet.{amount, Sheet}
 use Rattle.rule.specs.Demand.{Demand, demands}
 use Rattle.rule.specs.Excess.{excessDemand, excessSupply, positive}
 
--- prices, with those of the items in s up by 1, and down by 1
+-- the prices (rents) of the items of s go up by 1
 unfoldable pub raise : ℕ → List ℕ → ℕ → List ℕ
 raise m prices s = tabulate m (λ i. amount prices i + toNat (has s i)) 1
 
+-- the prices of the items of s go down by 1
 unfoldable pub lower : ℕ → List ℕ → ℕ → List ℕ
 lower m prices s = tabulate m (λ i. amount prices i - toNat (has s i)) 1
 
--- before the turn, and from it on
+-- rising until a round lowers, and falling from then on
 pub data Phase : Type 0 where
   rising falling : Phase
 
--- what a round does: the items of a set go up, or go down, or the auction closes
+-- what a round does: it raises the items of a set, or lowers them, or the auction (letting) closes
 pub data Round : Type 0 where
   raised lowered : ℕ → Round
   closed : Round
 
--- from the turn on: the falling set goes down until it is empty
+-- from the turn on the falling set goes down until it is empty. Step 4 of algorithm 1
 unfoldable pub roundFalling : ℕ → ℕ → List Demand → Round
 roundFalling m above ds = elim (excessSupply m above ds) [ suc k ↦ lowered (suc k) | zero ↦ closed ]
 
--- the round at these demands, `above` being the items of price above 0. While the rising set is not empty, it goes up; the turn is when it is
--- first empty, and needs no round of its own
+-- rising first: while the rising set is not empty it goes up. Step 3 of algorithm 1. The turn is when it is first empty, and needs no round of its own.
+-- The auction closes when both sets are empty. `above` are the items of price above 0
 unfoldable pub round : ℕ → ℕ → List Demand → Phase → Round
 round m above ds rising = elim (excessDemand m ds) [ suc k ↦ raised (suc k) | zero ↦ roundFalling m above ds ]
 round m above ds falling = roundFalling m above ds
 
--- where the path is: the phase, the prices, and how many rounds were raised and how many lowered
+-- where a path stands: the phase, the prices, and how many rounds were raised and how many lowered
 pub record State : Type 0 where
   pub phase : Phase
   pub prices : List ℕ
   pub ups : ℕ
   pub downs : ℕ
 
+-- the state after a round
 unfoldable pub move : ℕ → State → Round → State
 move m s (raised p) = record { phase = rising; prices = raise m (s .prices) p; ups = s .ups + 1; downs = s .downs }
 move m s (lowered p) = record { phase = falling; prices = lower m (s .prices) p; ups = s .ups; downs = s .downs + 1 }
 move m s closed = s
 
--- the round of a state whose bidders demand by their bids
+-- the round that the bidders' demands at a state's prices give
 unfoldable pub roundAt : ℕ → List (List ℕ) → State → Round
 roundAt m bids s = round m (positive m (s .prices)) (demands m bids (s .prices)) (s .phase)
 
--- the state after k rounds, which stays once the auction is closed
+-- one round
+abbrev pub step : ℕ → List (List ℕ) → State → State
+step m bids s = move m s (roundAt m bids s)
+
+-- k rounds; once closed, the state stays
 unfoldable pub after : ℕ → List (List ℕ) → State → ℕ → State
 after m bids s zero = s
-after m bids s (suc k) = let t : State = after m bids s k in move m t (roundAt m bids t)
+after m bids s (suc k) = let t : State = after m bids s k in step m bids t
 
+-- the start
 unfoldable pub opening : List ℕ → State
 opening start = record { phase = rising; prices = start; ups = 0; downs = 0 }
 
--- a sheet's path
+-- a sheet's path: what the rule of a round gives from its starting prices
 unfoldable pub path : Sheet → ℕ → State
 path s k = after (s .items) (s .bids) (opening (s .start)) k
 
--- a sheet's close: no path takes more than 8,190 rounds
+-- a sheet's close: no path takes more than 8,190 rounds (`Closing.ups-max`, `Closing.downs-max`)
 unfoldable pub close : Sheet → State
 close s = path s 8190
