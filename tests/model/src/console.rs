@@ -1,0 +1,108 @@
+//! The lines of the console program: orders in, an answer for each out, the record kept between.
+//!
+//! `o` + 2 hexadecimal digits items + 2 bidders + 4 for each starting price opens; `r` + 2 digits bidder + 01 or 00 for null +
+//! 8 digits item set reports; `e` ends the round; `c` clears; `s` reads the close. Anything else is 06.
+
+use crate::live::{Answer, Call, Record, Report};
+use crate::sheet::{number, numbers};
+use crate::Kind;
+
+/// The program, with its record.
+pub struct Console {
+    pub record: Record,
+}
+
+fn digits(prices: &[u16]) -> String {
+    prices.iter().map(|p| format!("{p:04x}")).collect()
+}
+
+impl Console {
+    /// Before any opening the record is the one of zeros.
+    pub fn new() -> Console {
+        Console { record: Record::zeros() }
+    }
+
+    /// What is written after a line, the last newline included. The line comes without its newline.
+    pub fn answer(&mut self, line: &[u8]) -> String {
+        match line {
+            [b'o', rest @ ..] => self.opened(rest),
+            b"e" => self.called(Call::End),
+            b"c" => self.called(Call::Clear),
+            b"s" => self.called(Call::Read { room: 271 }),
+            [b'r', rest @ ..] => match report(rest) {
+                Some(call) => self.called(call),
+                None => "06\n".into(),
+            },
+            _ => "06\n".into(),
+        }
+    }
+
+    fn opened(&mut self, rest: &[u8]) -> String {
+        let Some((items, bidders, start)) = opening(rest) else {
+            return "06\n".into();
+        };
+        match Record::open(items, bidders, &start) {
+            Ok(record) => {
+                self.record = record;
+                format!("00{}\n", digits(&start))
+            }
+            Err(number) => {
+                self.record = Record::zeros();
+                format!("{number:02}\n")
+            }
+        }
+    }
+
+    fn called(&mut self, call: Call) -> String {
+        let answer = self.record.call(call);
+        let prices = digits(self.record.prices());
+        match answer {
+            Answer::Refused(number) => format!("{number:02}\n"),
+            Answer::Done => "00\n".into(),
+            Answer::Moved(Kind::Raised, set) => format!("0001{set:08x}{prices}\n"),
+            Answer::Moved(Kind::Lowered, set) => format!("0002{set:08x}{prices}\n"),
+            Answer::Closed => format!("000300000000{prices}\n"),
+            Answer::Sheet(bytes) => format!("00\n{}", String::from_utf8(bytes).expect("digits and newlines")),
+        }
+    }
+}
+
+impl Default for Console {
+    fn default() -> Console {
+        Console::new()
+    }
+}
+
+fn opening(rest: &[u8]) -> Option<(u32, u32, Vec<u16>)> {
+    let (counts, start) = rest.split_at_checked(4)?;
+    Some((number(&counts[..2])?, number(&counts[2..])?, numbers(start, start.len() / 4)?))
+}
+
+fn report(rest: &[u8]) -> Option<Call> {
+    if rest.len() != 12 {
+        return None;
+    }
+    let bidder = number(&rest[..2])?;
+    let null = match &rest[2..4] {
+        b"00" => false,
+        b"01" => true,
+        _ => return None,
+    };
+    let items = number(&rest[4..])?;
+    Some(Call::Report { bidder, report: Report { null, items } })
+}
+
+/// The line of an opening.
+pub fn opening_line(items: u32, bidders: u32, start: &[u16]) -> String {
+    format!("o{items:02x}{bidders:02x}{}", digits(start))
+}
+
+/// The line of a call.
+pub fn line(call: Call) -> String {
+    match call {
+        Call::Report { bidder, report } => format!("r{bidder:02x}{:02x}{:08x}", u8::from(report.null), report.items),
+        Call::End => "e".into(),
+        Call::Clear => "c".into(),
+        Call::Read { .. } => "s".into(),
+    }
+}

@@ -1,0 +1,94 @@
+//! The second program: document 01 once more, in plain Rust, by other methods than the proved code.
+//!
+//! - [`literal`] follows the definitions to the letter: every part of every set, every assignment. For small sheets.
+//! - [`flows`] takes the sets from a maximum matching and its alternating closure, and the first assignment from flows
+//!   with lower bounds. For sheets of any size.
+//! - [`totals`] plays no round at all: it takes turn and close from best totals, as least equilibrium prices.
+//! - [`sheet`] reads bid sheets and writes closing sheets; [`live`] is the live auction, [`machine`] the plain machine
+//!   that a live list is held to, [`console`] the lines of the console program.
+//! - [`cases`] is document 01's table; [`random`] and [`generate`] make what else the comparison runs on, from a seed.
+//!
+//! Words: item (pan), bidder (raker), price (rent), surplus (gain), assignment (naming), null (no pan), refusal (turned down).
+
+pub mod cases;
+pub mod console;
+pub mod flows;
+pub mod generate;
+pub mod literal;
+pub mod live;
+pub mod machine;
+pub mod random;
+pub mod sheet;
+pub mod totals;
+
+/// The highest bid, starting price and price.
+pub const TOP: u16 = 4095;
+/// The most items.
+pub const ITEMS: usize = 32;
+/// The most bidders.
+pub const BIDDERS: usize = 64;
+
+/// What a bid sheet says: counts, starting prices, and bids, bidder after bidder.
+#[derive(Clone, Debug, PartialEq, Eq)]
+pub struct Sheet {
+    pub items: usize,
+    pub bidders: usize,
+    pub start: Vec<u16>,
+    pub bids: Vec<u16>,
+}
+
+impl Sheet {
+    /// The bids of a bidder, numbered from 1.
+    pub fn line(&self, bidder: usize) -> &[u16] {
+        &self.bids[(bidder - 1) * self.items..bidder * self.items]
+    }
+
+    /// A sheet from its starting prices and one line a bidder.
+    pub fn new(start: &[u16], lines: &[&[u16]]) -> Sheet {
+        Sheet { items: start.len(), bidders: lines.len(), start: start.to_vec(), bids: lines.concat() }
+    }
+}
+
+/// The kind of a round.
+#[derive(Clone, Copy, Debug, PartialEq, Eq)]
+pub enum Kind {
+    Raised,
+    Lowered,
+}
+
+/// A round of a path: its kind, its items (bit i − 1 for item i) and the prices after it.
+#[derive(Clone, Debug, PartialEq, Eq)]
+pub struct Round {
+    pub kind: Kind,
+    pub items: u32,
+    pub prices: Vec<u16>,
+}
+
+/// What a closing sheet says: rounds raised and lowered, the prices, and each bidder's item, 0 for none.
+#[derive(Clone, Debug, PartialEq, Eq)]
+pub struct Closing {
+    pub raised: u32,
+    pub lowered: u32,
+    pub prices: Vec<u16>,
+    pub names: Vec<u8>,
+}
+
+/// The number that turns a sealed auction down, by document 01's order 1, 2, 3, 4, 5.
+pub fn sealed_refusal(items: u32, bidders: u32, start: &[u16], bids: &[u16]) -> Option<u8> {
+    if !(1..=ITEMS as u32).contains(&items) {
+        return Some(1);
+    }
+    if !(1..=BIDDERS as u32).contains(&bidders) {
+        return Some(2);
+    }
+    if start.len() != items as usize || bids.len() != items as usize * bidders as usize {
+        return Some(3);
+    }
+    if start.iter().any(|&x| x > TOP) {
+        return Some(4);
+    }
+    if bids.iter().any(|&x| x > TOP) {
+        return Some(5);
+    }
+    None
+}

@@ -1,0 +1,266 @@
+//! The live auction: the record, its calls, and when a record is well formed (number 11).
+
+use crate::flows::{self, Demand};
+use crate::sheet::{closing_length, write_closing};
+use crate::{Closing, Kind, BIDDERS, ITEMS, TOP};
+
+/// A report: null yes or no, beside an item set. It is empty if it says no and the set is empty.
+pub type Report = Demand;
+
+#[derive(Clone, Copy, Debug, PartialEq, Eq)]
+pub enum Phase {
+    Rising,
+    Falling,
+    Closed,
+}
+
+/// What goes from call to call.
+#[derive(Clone, Debug, PartialEq, Eq)]
+pub struct Record {
+    pub items: u32,
+    pub bidders: u32,
+    pub prices: [u16; ITEMS],
+    pub reports: [Report; BIDDERS],
+    /// Which bidders have reported, bit k − 1 for bidder k.
+    pub reported: u64,
+    pub phase: Phase,
+    pub raised: u32,
+    pub lowered: u32,
+}
+
+/// A call on a record. A read lends `room` bytes.
+#[derive(Clone, Copy, Debug, PartialEq, Eq)]
+pub enum Call {
+    Report { bidder: u32, report: Report },
+    End,
+    Clear,
+    Read { room: usize },
+}
+
+/// What a call answers; `Done` for an accepted report or clear.
+#[derive(Clone, Debug, PartialEq, Eq)]
+pub enum Answer {
+    Refused(u8),
+    Done,
+    Moved(Kind, u32),
+    Closed,
+    Sheet(Vec<u8>),
+}
+
+/// Number 8: the report is empty or holds an item beyond the count.
+pub fn unfit(items: u32, report: Report) -> bool {
+    let empty = !report.null && report.items == 0;
+    empty || beyond(items, report.items)
+}
+
+fn beyond(items: u32, set: u32) -> bool {
+    u64::from(set) >> items != 0
+}
+
+impl Record {
+    /// Zeros only, rising: the record beside an opening that is turned down.
+    pub fn zeros() -> Record {
+        Record {
+            items: 0,
+            bidders: 0,
+            prices: [0; ITEMS],
+            reports: [Report::default(); BIDDERS],
+            reported: 0,
+            phase: Phase::Rising,
+            raised: 0,
+            lowered: 0,
+        }
+    }
+
+    /// Opening: 1, 2, 3, 4.
+    pub fn open(items: u32, bidders: u32, start: &[u16]) -> Result<Record, u8> {
+        if items < 1 || items > ITEMS as u32 {
+            return Err(1);
+        }
+        if bidders < 1 || bidders > BIDDERS as u32 {
+            return Err(2);
+        }
+        if start.len() != items as usize {
+            return Err(3);
+        }
+        if start.iter().any(|&p| p > TOP) {
+            return Err(4);
+        }
+        let mut record = Record { items, bidders, ..Record::zeros() };
+        record.prices[..start.len()].copy_from_slice(start);
+        Ok(record)
+    }
+
+    pub fn prices(&self) -> &[u16] {
+        &self.prices[..self.items as usize]
+    }
+
+    pub fn reports(&self) -> &[Report] {
+        &self.reports[..self.bidders as usize]
+    }
+
+    pub fn has_reported(&self, bidder: u32) -> bool {
+        self.reported >> (bidder - 1) & 1 == 1
+    }
+
+    fn report_missing(&self) -> bool {
+        (1..=self.bidders).any(|k| !self.has_reported(k))
+    }
+
+    fn rising_set(&self) -> u32 {
+        flows::rising(self.reports())
+    }
+
+    fn falling_set(&self) -> u32 {
+        flows::falling(flows::above_zero(self.prices()), self.reports())
+    }
+
+    /// Number 11, clause by clause; sums never wrap.
+    pub fn well_formed(&self) -> bool {
+        let (items, bidders) = (self.items as usize, self.bidders as usize);
+        if !(1..=ITEMS).contains(&items) || !(1..=BIDDERS).contains(&bidders) {
+            return false;
+        }
+        if self.prices.iter().any(|&p| p > TOP) {
+            return false;
+        }
+        let places = self.prices[items..].iter().any(|&p| p != 0);
+        let past = self.reports[bidders..].iter().any(|&r| r != Report::default());
+        let bits = bidders < BIDDERS && self.reported >> bidders != 0;
+        if places || past || bits {
+            return false;
+        }
+        for k in 1..=bidders {
+            let report = self.reports[k - 1];
+            let bad = if self.has_reported(k as u32) { unfit(self.items, report) } else { report != Report::default() };
+            if bad {
+                return false;
+            }
+        }
+        let sum: u64 = self.prices.iter().map(|&p| u64::from(p)).sum();
+        let (raised, lowered) = (u64::from(self.raised), u64::from(self.lowered));
+        let most = u64::from(TOP) * items as u64;
+        match self.phase {
+            Phase::Rising => lowered == 0 && raised <= sum,
+            Phase::Falling => raised <= most && sum + lowered <= most,
+            Phase::Closed => {
+                raised <= most
+                    && sum + lowered <= most
+                    && !self.report_missing()
+                    && self.rising_set() == 0
+                    && self.falling_set() == 0
+            }
+        }
+    }
+
+    fn emptied(&mut self) {
+        self.reports = [Report::default(); BIDDERS];
+        self.reported = 0;
+    }
+
+    fn moved(&mut self, set: u32, kind: Kind) -> Answer {
+        let next = flows::moved(self.prices(), set, kind);
+        self.prices[..next.len()].copy_from_slice(&next);
+        match kind {
+            Kind::Raised => self.raised += 1,
+            Kind::Lowered => {
+                self.lowered += 1;
+                self.phase = Phase::Falling;
+            }
+        }
+        self.emptied();
+        Answer::Moved(kind, set)
+    }
+
+    /// Report: 11, 12, 7, 13, 8.
+    fn report(&mut self, bidder: u32, report: Report) -> Answer {
+        let place = bidder.wrapping_sub(1) as usize;
+        if !self.well_formed() {
+            Answer::Refused(11)
+        } else if self.phase == Phase::Closed {
+            Answer::Refused(12)
+        } else if bidder < 1 || self.bidders < bidder {
+            Answer::Refused(7)
+        } else if self.has_reported(bidder) {
+            Answer::Refused(13)
+        } else if unfit(self.items, report) {
+            Answer::Refused(8)
+        } else {
+            self.reports[place] = report;
+            self.reported |= 1 << place;
+            Answer::Done
+        }
+    }
+
+    /// Ending a round: 11, 12, 14, then 16 or 17.
+    fn end(&mut self) -> Answer {
+        if !self.well_formed() {
+            return Answer::Refused(11);
+        }
+        if self.phase == Phase::Closed {
+            return Answer::Refused(12);
+        }
+        if self.report_missing() {
+            return Answer::Refused(14);
+        }
+        let rising = self.rising_set();
+        if rising != 0 {
+            if self.phase == Phase::Falling {
+                return Answer::Refused(16);
+            }
+            let at_top = |i: usize| rising >> i & 1 == 1 && self.prices[i] == TOP;
+            if (0..ITEMS).any(at_top) {
+                return Answer::Refused(17);
+            }
+            return self.moved(rising, Kind::Raised);
+        }
+        let falling = self.falling_set();
+        if falling != 0 {
+            return self.moved(falling, Kind::Lowered);
+        }
+        self.phase = Phase::Closed;
+        Answer::Closed
+    }
+
+    /// Clear: 11, 12.
+    fn clear(&mut self) -> Answer {
+        if !self.well_formed() {
+            return Answer::Refused(11);
+        }
+        if self.phase == Phase::Closed {
+            return Answer::Refused(12);
+        }
+        self.emptied();
+        Answer::Done
+    }
+
+    /// Read: 11, 15, 3.
+    fn read(&self, room: usize) -> Answer {
+        if !self.well_formed() {
+            return Answer::Refused(11);
+        }
+        if self.phase != Phase::Closed {
+            return Answer::Refused(15);
+        }
+        if room < closing_length(self.items as usize, self.bidders as usize) {
+            return Answer::Refused(3);
+        }
+        let names = flows::first_assignment(self.reports(), flows::above_zero(self.prices()));
+        Answer::Sheet(write_closing(&Closing {
+            raised: self.raised,
+            lowered: self.lowered,
+            prices: self.prices().to_vec(),
+            names: names.expect("some assignment fits a close"),
+        }))
+    }
+
+    /// Answers a call, and leaves the next record here.
+    pub fn call(&mut self, call: Call) -> Answer {
+        match call {
+            Call::Report { bidder, report } => self.report(bidder, report),
+            Call::End => self.end(),
+            Call::Clear => self.clear(),
+            Call::Read { room } => self.read(room),
+        }
+    }
+}

@@ -1,0 +1,90 @@
+//! Turn and close without a round: both are least equilibrium prices, and such a price is what the best total would gain from one
+//! more copy of the item (source document 000's prices are those of Vickrey). Counts of rounds are then the largest rise and the
+//! largest fall. Best totals come from the Hungarian method with potentials.
+
+use crate::Sheet;
+
+/// The best total over assignments of bidders to columns or to null (worth 0); `worth[b][c]` may be below 0.
+pub fn best_total(worth: &[Vec<i32>]) -> i32 {
+    let n = worth.len();
+    let real = worth.first().map_or(0, Vec::len);
+    let width = real + n;
+    // Rows and columns from 1; column 0 is where a new row starts. Costs are worths negated; the last n columns are null.
+    let cost = |row: usize, column: usize| if column <= real { -worth[row - 1][column - 1] } else { 0 };
+    let (mut of_row, mut of_column) = (vec![0; n + 1], vec![0; width + 1]);
+    let mut holder = vec![0; width + 1];
+    for row in 1..=n {
+        holder[0] = row;
+        let mut column = 0;
+        let mut slack = vec![i32::MAX; width + 1];
+        let mut before = vec![0; width + 1];
+        let mut used = vec![false; width + 1];
+        while holder[column] != 0 {
+            used[column] = true;
+            let r = holder[column];
+            let (mut least, mut next) = (i32::MAX, 0);
+            for c in (1..=width).filter(|&c| !used[c]) {
+                let reduced = cost(r, c) - of_row[r] - of_column[c];
+                if reduced < slack[c] {
+                    slack[c] = reduced;
+                    before[c] = column;
+                }
+                if slack[c] < least {
+                    least = slack[c];
+                    next = c;
+                }
+            }
+            for c in 0..=width {
+                if used[c] {
+                    of_row[holder[c]] += least;
+                    of_column[c] -= least;
+                } else if slack[c] != i32::MAX {
+                    slack[c] -= least;
+                }
+            }
+            column = next;
+        }
+        while column != 0 {
+            holder[column] = holder[before[column]];
+            column = before[column];
+        }
+    }
+    (1..=width).filter(|&c| holder[c] != 0).map(|c| -cost(holder[c], c)).sum()
+}
+
+/// The least equilibrium prices of these worths: what one more copy of each column adds to the best total.
+fn least_prices(worth: &[Vec<i32>]) -> Vec<i32> {
+    let total = best_total(worth);
+    let with_copy = |c: usize| worth.iter().map(|line| [line.as_slice(), &[line[c]]].concat()).collect::<Vec<_>>();
+    (0..worth[0].len()).map(|c| best_total(&with_copy(c)) - total).collect()
+}
+
+/// The prices at the turn and at the close.
+pub fn turn_and_close(sheet: &Sheet) -> (Vec<u16>, Vec<u16>) {
+    let worth = |start: &dyn Fn(usize) -> i32| -> Vec<Vec<i32>> {
+        let line = |l: &[u16]| l.iter().enumerate().map(|(i, &bid)| bid as i32 - start(i)).collect();
+        sheet.bids.chunks(sheet.items).map(line).collect()
+    };
+    let rise = least_prices(&worth(&|i| sheet.start[i] as i32));
+    let turn = rise.iter().zip(&sheet.start).map(|(&up, &start)| (start as i32 + up) as u16).collect();
+    let close = least_prices(&worth(&|_| 0)).iter().map(|&p| p as u16).collect();
+    (turn, close)
+}
+
+/// Rounds raised and lowered: the largest rise and the largest fall.
+pub fn rounds(sheet: &Sheet, turn: &[u16], close: &[u16]) -> (u32, u32) {
+    let largest = |high: &[u16], low: &[u16]| high.iter().zip(low).map(|(&h, &l)| (h - l) as u32).max().unwrap_or(0);
+    (largest(turn, &sheet.start), largest(turn, close))
+}
+
+/// The total of an assignment.
+pub fn total(sheet: &Sheet, names: &[u8]) -> i32 {
+    let bid = |(b, &item): (usize, &u8)| if item == 0 { 0 } else { sheet.line(b + 1)[item as usize - 1] as i32 };
+    names.iter().enumerate().map(bid).sum()
+}
+
+/// The best total of the sheet's bids.
+pub fn best(sheet: &Sheet) -> i32 {
+    let line = |l: &[u16]| l.iter().map(|&bid| bid as i32).collect();
+    best_total(&sheet.bids.chunks(sheet.items).map(line).collect::<Vec<_>>())
+}

@@ -1,0 +1,107 @@
+//! Document 01's "Lettings to try", by every method of the second program.
+
+use model::cases::table;
+use model::flows::{self, Demand};
+use model::live::{Answer, Call, Record};
+use model::{literal, sheet, Kind};
+
+#[test]
+fn the_table() {
+    for case in table() {
+        assert_eq!(literal::close(&case.sheet), case.closing, "{}", case.name);
+        assert_eq!(flows::close(&case.sheet), case.closing, "{}", case.name);
+    }
+}
+
+#[test]
+fn k2_and_k3() {
+    let demands: Vec<Demand> = [1, 1, 1, 2, 2, 8].map(|items| Demand { null: false, items }).to_vec();
+    assert_eq!(flows::rising(&demands), 0b0011);
+    assert_eq!(flows::falling(0b1001, &demands), 0b1000);
+    let example_6 = &table()[0].sheet;
+    let at = flows::demands(example_6, &[0, 4]);
+    assert_eq!(flows::rising(&at), 0b11);
+    assert_eq!(flows::falling(flows::above_zero(&[0, 4]), &at), 0);
+}
+
+#[test]
+fn k4_falls_from_the_start() {
+    assert_eq!(flows::path(&table()[1].sheet)[0].items, 0b11);
+}
+
+#[test]
+fn example_6_as_bytes() {
+    let bids = b"020300040004\n00020006\n00030007\n00060007\n";
+    assert_eq!(sheet::close(bids, 29).unwrap(), b"000002000002\n00020006\n000201\n");
+    assert_eq!(sheet::write(&table()[0].sheet), bids);
+    assert_eq!(sheet::close(bids, 28), Err(3));
+}
+
+#[test]
+fn bytes_that_are_turned_down() {
+    let turned = |bytes: &[u8]| sheet::close(bytes, 271).err();
+    for (bytes, number) in [
+        (&b""[..], 6),
+        (b"00", 6),
+        (b"21", 6),
+        (b"000G", 6),
+        (b"0000", 1),
+        (b"0041", 1),
+        (b"01ff", 2),
+        (b"2101", 1),
+        (b"01010000\n0000\n\n", 6),
+        (b"01010000\n0000", 6),
+        (b"01010000\r\n0000\r\n", 6),
+        (b"0101000A\n0000\n", 6),
+        (b"01011000\n0000\n", 4),
+        (b"01010000\n1000\n", 5),
+        (b"01011000\n1000\n", 4),
+    ] {
+        assert_eq!(turned(bytes), Some(number), "{:?}", String::from_utf8_lossy(bytes));
+    }
+    assert_eq!(sheet::close(b"01011000\n0000\n", 20), Err(3));
+}
+
+/// Reports the same for both bidders of a letting of one item, and ends the round.
+fn both_report(record: &mut Record, null: bool, items: u32) -> Answer {
+    for bidder in 1..=2 {
+        let report = Demand { null, items };
+        assert_eq!(record.call(Call::Report { bidder, report }), Answer::Done);
+    }
+    record.call(Call::End)
+}
+
+#[test]
+fn sixteen() {
+    let mut record = Record::open(1, 2, &[5]).unwrap();
+    assert_eq!(both_report(&mut record, true, 0), Answer::Moved(Kind::Lowered, 1));
+    assert_eq!(record.prices(), [4]);
+    assert_eq!(both_report(&mut record, false, 1), Answer::Refused(16));
+}
+
+#[test]
+fn seventeen() {
+    let mut record = Record::open(1, 2, &[4095]).unwrap();
+    assert_eq!(both_report(&mut record, false, 1), Answer::Refused(17));
+}
+
+#[test]
+fn a_refused_opening() {
+    assert_eq!(Record::open(33, 65, &[]), Err(1));
+    assert_eq!(Record::open(32, 65, &[]), Err(2));
+    assert_eq!(Record::open(32, 64, &[0; 31]), Err(3));
+    assert_eq!(Record::open(1, 1, &[4096]), Err(4));
+    assert!(Record::open(32, 64, &[4095; 32]).is_ok());
+    assert_eq!(Record::zeros().call(Call::Clear), Answer::Refused(11));
+}
+
+/// `examples/` has the table as files, each sheet with what comes out beside it.
+#[test]
+fn the_examples() {
+    let folder = std::path::Path::new(env!("CARGO_MANIFEST_DIR")).join("../../examples");
+    for case in table() {
+        let bytes = |kind: &str| std::fs::read(folder.join(format!("{}.{kind}", case.name))).expect("an example");
+        assert_eq!(sheet::read(&bytes("sheet")), Ok(case.sheet.clone()), "{}", case.name);
+        assert_eq!(sheet::close(&bytes("sheet"), 271), Ok(bytes("closing")), "{}", case.name);
+    }
+}
