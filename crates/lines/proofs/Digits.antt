@@ -1,0 +1,37 @@
+-- What each byte is worth as a digit; a digit's byte is worth the digit, and no other byte is. Assumes nothing.
+use Prim.Native.Nat.{ℕ, _+_, _-_, _≤_, _<_}
+use mathlib.Core.Path.{_≡_}
+use mathlib.Core.Option.{none, some}
+use native.Mathlib.Omega.{arith}
+use borrow.Author.Tests.{lt-ltb, le-ltb, le-leb, lt-leb}
+use Rattle.lines.specs.Lines.{digit}
+use Rattle.lines.specs.Reading.{digitValue}
+
+pub decimal : (b : ℕ) → 48 ≤ b → b ≤ 57 → digitValue b ≡ some (b - 48)
+unfolding digitValue
+decimal b l h = simp (le-leb 48 b l, le-leb b 57 h)
+
+pub letter : (b : ℕ) → 97 ≤ b → b ≤ 102 → digitValue b ≡ some (b - 87)
+unfolding digitValue
+letter b l h = simp (le-leb 48 b (omega arith), lt-leb b 57 (omega arith), le-leb 97 b l, le-leb b 102 h)
+
+pub below : (b : ℕ) → b < 48 → digitValue b ≡ none
+unfolding digitValue
+below b h = simp (lt-leb 48 b h, lt-leb 97 b (omega arith))
+
+pub between : (b : ℕ) → 57 < b → b < 97 → digitValue b ≡ none
+unfolding digitValue
+between b l h = simp (le-leb 48 b (omega arith), lt-leb b 57 l, lt-leb 97 b h)
+
+pub above : (b : ℕ) → 102 < b → digitValue b ≡ none
+unfolding digitValue
+above b l = simp (le-leb 48 b (omega arith), lt-leb b 57 (omega arith), le-leb 97 b (omega arith), lt-leb b 102 l)
+
+-- the byte of a digit
+pub digit-low : (d : ℕ) → d < 10 → digit d ≡ 48 + d
+unfolding digit
+digit-low d h = simp (lt-ltb d 10 h)
+
+pub digit-high : (d : ℕ) → 10 ≤ d → digit d ≡ 87 + d
+unfolding digit
+digit-high d h = simp (le-ltb d 10 h)

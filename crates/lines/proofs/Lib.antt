@@ -1,0 +1,4 @@
+pub mod Stores
+pub mod Lengths
+pub mod Digits
+pub mod Written

@@ -1,0 +1,61 @@
+-- The three lines, written one after the other, are the closing sheet; and where it is not written, nothing changes. Assumes nothing.
+use Prim.Native.Nat.{ℕ, _+_, _*_, _≤_, _<_}
+use mathlib.Core.Path.{_≡_, sym, ap, _∙_}
+use mathlib.Core.Bool.{Bool, true, false, cond}
+use mathlib.Core.List.{List, _++_}
+use native.Mathlib.Omega.{arith}
+use lib.ListN.{length, getD, length-append}
+use lib.Seq.{sets}
+use borrow.Author.Tests.{le-leb, lt-leb}
+use Rattle.lines.specs.Lines.{hex, newline, joined, closingSheet, closingLength, writtenTo, writes, afterClosing}
+use Rattle.lines.proofs.Stores.{sets-then, sets-front}
+use Rattle.lines.proofs.Lengths.{rounds-length, line-length, by-lines, closing-length}
+
+-- the tests on the counts and the room
+pub many-items : (m n room : ℕ) → 32 < m → writes m n room ≡ false
+unfolding writes
+many-items m n room h = simp (lt-leb m 32 h)
+
+pub many-bidders : (m n room : ℕ) → m ≤ 32 → 64 < n → writes m n room ≡ false
+unfolding writes
+many-bidders m n room l h = simp (le-leb m 32 l, lt-leb n 64 h)
+
+pub no-room : (m n room : ℕ) → m ≤ 32 → n ≤ 64 → room < 15 + 4 * m + 2 * n → writes m n room ≡ false
+unfolding writes closingLength
+no-room m n room l k h = simp (le-leb m 32 l, le-leb n 64 k, lt-leb (15 + 4 * m + 2 * n) room h)
+
+pub enough : (m n room : ℕ) → m ≤ 32 → n ≤ 64 → 15 + 4 * m + 2 * n ≤ room → writes m n room ≡ true
+unfolding writes closingLength
+enough m n room l k h = simp (le-leb m 32 l, le-leb n 64 k, le-leb (15 + 4 * m + 2 * n) room h)
+
+module _ (m n ups downs : ℕ) (prices options out : List ℕ) where
+  pub unchanged : writes m n (length out) ≡ false → out ≡ afterClosing m n ups downs prices options out
+  unfolding afterClosing
+  unchanged e = ap (λ (t : Bool). cond t (writtenTo out (closingSheet m n ups downs prices options)) out) (sym e)
+
+  changed : writes m n (length out) ≡ true → writtenTo out (closingSheet m n ups downs prices options) ≡ afterClosing m n ups downs prices options out
+  unfolding afterClosing
+  changed e = ap (λ (t : Bool). cond t (writtenTo out (closingSheet m n ups downs prices options)) out) (sym e)
+
+  -- out with the first line is a, with the first two b, with all three c
+  pub three-lines : (a b c : List ℕ) → m ≤ 32 → n ≤ 64 → 15 + 4 * m + 2 * n ≤ length out
+      → a ≡ sets out 0 (hex 6 ups ++ hex 6 downs ++ newline)
+      → b ≡ sets a 13 (joined m (λ k. hex 4 (getD prices k 0)) ++ newline)
+      → c ≡ sets b (14 + 4 * m) (joined n (λ x. hex 2 (getD options x 0)) ++ newline)
+      → c ≡ afterClosing m n ups downs prices options out
+  unfolding closingLength
+  three-lines a b c l k h e f g =
+      let first : List ℕ = hex 6 ups ++ hex 6 downs ++ newline in
+      let second : List ℕ = joined m (λ k. hex 4 (getD prices k 0)) ++ newline in
+      let third : List ℕ = joined n (λ x. hex 2 (getD options x 0)) ++ newline in
+      let i : 0 + length first ≡ 13 = omega (arith, rounds-length ups downs) in
+      let j : 0 + length (first ++ second) ≡ 14 + 4 * m =
+      omega (arith, length-append first second, rounds-length ups downs, line-length m 4 prices) in
+      let fits : length (closingSheet m n ups downs prices options) ≤ length out = omega (arith, closing-length m n ups downs prices options) in
+      let two : b ≡ sets out 0 (first ++ second) = f ∙ ap (λ (r : List ℕ). sets r 13 second) e ∙ sets-then out 0 13 first second i in
+      g
+      ∙ ap (λ (r : List ℕ). sets r (14 + 4 * m) third) two
+      ∙ sets-then out 0 (14 + 4 * m) (first ++ second) third j
+      ∙ ap (λ (vs : List ℕ). sets out 0 vs) (sym (by-lines m n ups downs prices options))
+      ∙ sets-front out (closingSheet m n ups downs prices options) fits
+      ∙ changed (enough m n (length out) l k h)

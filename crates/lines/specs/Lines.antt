@@ -1,0 +1,48 @@
+-- Hexadecimal digits and the closing sheet's bytes: document 01, "Sheets". Assumes nothing: these are definitions.
+use Prim.Native.Nat.{ℕ, zero, suc, _+_, _*_, _/_, _%_}
+use mathlib.Core.Bool.{Bool, _&&_, cond}
+use mathlib.Core.List.{List, [], _∷_, _++_}
+use lib.Dec.{ltb, leb}
+use lib.ListN.{length, getD, drop}
+
+-- a digit's byte: 0 to 9 and a to f
+unfoldable pub digit : ℕ → ℕ
+digit d = cond (ltb d 10) (48 + d) (87 + d)
+
+-- the last n digits of x
+unfoldable pub hex : ℕ → ℕ → List ℕ
+hex zero x = []
+hex (suc n) x = hex n (x / 16) ++ digit (x % 16) ∷ []
+
+-- the byte that ends each line
+unfoldable pub newline : List ℕ
+newline = 10 ∷ []
+
+-- the lists f 0, …, f (n − 1), one after the other
+unfoldable pub joined : ℕ → (ℕ → List ℕ) → List ℕ
+joined zero f = []
+joined (suc n) f = f 0 ++ joined n (λ k. f (suc k))
+
+-- three lines: rounds raised and rounds lowered, 6 digits each; each price, 4 digits; each bidder's option, 2 digits, 00 for none
+unfoldable pub closingSheet : (m n ups downs : ℕ) (prices options : List ℕ) → List ℕ
+closingSheet m n ups downs prices options =
+    hex 6 ups ++ hex 6 downs ++ newline
+    ++ joined m (λ k. hex 4 (getD prices k 0)) ++ newline
+    ++ joined n (λ b. hex 2 (getD options b 0)) ++ newline
+
+-- how many bytes that is
+unfoldable pub closingLength : ℕ → ℕ → ℕ
+closingLength m n = 15 + 4 * m + 2 * n
+
+-- lent bytes after the sheet is written to their front: bytes past the sheet stay as they came
+unfoldable pub writtenTo : List ℕ → List ℕ → List ℕ
+writtenTo out sheet = sheet ++ drop (length sheet) out
+
+-- a closing sheet is written: of at most 32 items and 64 bidders, into bytes that are not too few for it
+unfoldable pub writes : (m n room : ℕ) → Bool
+writes m n room = leb m 32 && leb n 64 && leb (closingLength m n) room
+
+-- the lent bytes afterwards: as before where the sheet is not written
+unfoldable pub afterClosing : (m n ups downs : ℕ) (prices options out : List ℕ) → List ℕ
+afterClosing m n ups downs prices options out =
+    cond (writes m n (length out)) (writtenTo out (closingSheet m n ups downs prices options)) out

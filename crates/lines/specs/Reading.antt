@@ -1,0 +1,44 @@
+-- Reading digits, numbers and lines from bytes: document 01, "Sheets". Assumes nothing: these are definitions.
+use Prim.Native.Nat.{ℕ, zero, suc, _+_, _*_, _-_}
+use mathlib.Core.Bool.{_&&_, cond}
+use mathlib.Core.List.{List, [], _∷_}
+use mathlib.Core.Option.{Option, none, some}
+use lib.Dec.{leb, eqb}
+use lib.ListN.{getElem?}
+
+infixl 20 _>>=_
+-- what one reading gives goes to the next; none where one of them gives none
+abbrev pub _>>=_ : {A B : Type 0} → Option A → (A → Option B) → Option B
+none >>= f = none
+some a >>= f = f a
+
+-- a byte's value as a digit: the bytes 48 to 57 are 0 to 9, the bytes 97 to 102 are a to f, and no other byte is a digit
+unfoldable pub digitValue : ℕ → Option ℕ
+digitValue b = cond (leb 48 b && leb b 57) (some (b - 48)) (cond (leb 97 b && leb b 102) (some (b - 87)) none)
+
+-- the digit at a place; past the last byte there is none
+unfoldable pub digitAt : List ℕ → ℕ → Option ℕ
+digitAt bytes at = getElem? bytes at >>= digitValue
+
+-- the number in n digits from a place on
+unfoldable pub numberAt : ℕ → List ℕ → ℕ → Option ℕ
+numberAt zero bytes at = some 0
+numberAt (suc n) bytes at = do
+  x ← numberAt n bytes at
+  d ← digitAt bytes (at + n)
+  some (16 * x + d)
+
+-- k numbers of n digits each, one after the other from a place on
+unfoldable pub numbersAt : (k n : ℕ) → List ℕ → ℕ → Option (List ℕ)
+numbersAt zero n bytes at = some []
+numbersAt (suc k) n bytes at = do
+  x ← numberAt n bytes at
+  xs ← numbersAt k n bytes (at + n)
+  some (x ∷ xs)
+
+-- the line that starts at a place: k numbers of n digits each, then byte 0a
+unfoldable pub lineAt : (k n : ℕ) → List ℕ → ℕ → Option (List ℕ)
+lineAt k n bytes at = do
+  xs ← numbersAt k n bytes at
+  b ← getElem? bytes (at + n * k)
+  cond (eqb b 10) (some xs) none
