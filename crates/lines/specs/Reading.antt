@@ -42,3 +42,17 @@ lineAt k n bytes at = do
   xs ← numbersAt k n bytes at
   b ← getElem? bytes (at + n * k)
   cond (eqb b 10) (some xs) none
+
+-- what the three lines of a closing sheet say: rounds raised and rounds lowered, the prices, the options
+pub record Said : Type 0 where
+  pub rounds : List ℕ
+  pub prices : List ℕ
+  pub options : List ℕ
+
+-- a closing sheet of m items and n bidders, read: each line starts right behind the one before
+unfoldable pub readClosing : (m n : ℕ) → List ℕ → Option Said
+readClosing m n bytes = do
+  rounds ← lineAt 2 6 bytes 0
+  prices ← lineAt m 4 bytes 13
+  options ← lineAt n 2 bytes (14 + 4 * m)
+  some (record { rounds = rounds; prices = prices; options = options })

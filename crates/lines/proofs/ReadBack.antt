@@ -1,0 +1,54 @@
+-- The closing sheet determines its contents: reading its three lines gives the rounds, the prices and the options that were written. Assumes nothing.
+use Prim.Native.Nat.{ℕ, zero, suc, _+_, _*_, _^_, _<_}
+use mathlib.Core.Path.{_≡_, sym, ap, _∙_, subst}
+use mathlib.Core.List.{List, [], _∷_, _++_, append-nil}
+use mathlib.Core.Option.{some}
+use native.Mathlib.Omega.{arith}
+use native.Mathlib.Nat.{not-suc-le-zero}
+use lib.ListN.{length, getD, length-append}
+use Rattle.sets.specs.Lists.{tabulate, places}
+use Rattle.lines.specs.Lines.{hex, newline, joined, closingSheet}
+use Rattle.lines.specs.Reading.{_>>=_, lineAt, readClosing}
+use Rattle.lines.proofs.Lengths.{rounds-length, line-length, by-lines}
+use Rattle.lines.proofs.Stands.{Stands, itself, front, back}
+use Rattle.lines.proofs.Gives.{gives}
+use Rattle.lines.proofs.Line.{line-at}
+
+-- the first line is one of two numbers
+two : (u d : ℕ) → hex 6 u ++ hex 6 d ++ newline ≡ joined 2 (λ i. hex 6 (getD (u ∷ d ∷ []) i 0)) ++ newline
+unfolding joined
+two u d = ap (λ (r : List ℕ). hex 6 u ++ r ++ newline) (sym (append-nil (hex 6 d)))
+
+both-small : (u d b : ℕ) → u < b → d < b → (i : ℕ) → i < 2 → getD (u ∷ d ∷ []) i 0 < b
+both-small u d b h l zero k = h
+both-small u d b h l (suc zero) k = l
+both-small u d b h l (suc (suc i)) k = absurd (not-suc-le-zero {n = i} (omega arith))
+
+pub read-back : (m n ups downs : ℕ) (prices options : List ℕ) → ups < 16 ^ 6 → downs < 16 ^ 6
+    → ((i : ℕ) → i < m → getD prices i 0 < 16 ^ 4) → ((b : ℕ) → b < n → getD options b 0 < 16 ^ 2)
+    → readClosing m n (closingSheet m n ups downs prices options)
+    ≡ some (record { rounds = ups ∷ downs ∷ []; prices = places m prices; options = places n options })
+unfolding readClosing places tabulate
+read-back m n ups downs prices options hu hd hp ho =
+    let bytes : List ℕ = closingSheet m n ups downs prices options in
+    let first : List ℕ = hex 6 ups ++ hex 6 downs ++ newline in
+    let second : List ℕ = joined m (λ k. hex 4 (getD prices k 0)) ++ newline in
+    let third : List ℕ = joined n (λ x. hex 2 (getD options x 0)) ++ newline in
+    let all : Stands bytes 0 (first ++ second ++ third) = subst (λ (vs : List ℕ). Stands bytes 0 vs) (by-lines m n ups downs prices options) (itself bytes) in
+    let s₁ : Stands bytes 0 first = front bytes 0 first second (front bytes 0 (first ++ second) third all) in
+    let e₂ : 0 + length first ≡ 13 = omega (arith, rounds-length ups downs) in
+    let s₂ : Stands bytes 13 second = subst (λ (j : ℕ). Stands bytes j second) e₂ (back bytes 0 first second (front bytes 0 (first ++ second) third all)) in
+    let e₃ : 0 + length (first ++ second) ≡ 14 + 4 * m =
+    omega (arith, length-append first second, rounds-length ups downs, line-length m 4 prices) in
+    let s₃ : Stands bytes (14 + 4 * m) third = subst (λ (j : ℕ). Stands bytes j third) e₃ (back bytes 0 (first ++ second) third all) in
+    let l₁ : lineAt 2 6 bytes 0 ≡ some (ups ∷ downs ∷ []) =
+    line-at bytes 2 6 0 (λ i. getD (ups ∷ downs ∷ []) i 0) (both-small ups downs (16 ^ 6) hu hd)
+    (subst (λ (vs : List ℕ). Stands bytes 0 vs) (two ups downs) s₁) in
+    let l₂ : lineAt m 4 bytes 13 ≡ some (places m prices) = line-at bytes m 4 13 (λ k. getD prices k 0) hp s₂ in
+    let l₃ : lineAt n 2 bytes (14 + 4 * m) ≡ some (places n options) = line-at bytes n 2 (14 + 4 * m) (λ x. getD options x 0) ho s₃ in
+    gives (lineAt 2 6 bytes 0)
+    (λ r. lineAt m 4 bytes 13 >>= λ p. lineAt n 2 bytes (14 + 4 * m) >>= λ o. some (record { rounds = r; prices = p; options = o })) (ups ∷ downs ∷ []) l₁
+    ∙ gives (lineAt m 4 bytes 13)
+    (λ p. lineAt n 2 bytes (14 + 4 * m) >>= λ o. some (record { rounds = ups ∷ downs ∷ []; prices = p; options = o })) (places m prices) l₂
+    ∙ gives (lineAt n 2 bytes (14 + 4 * m))
+    (λ o. some (record { rounds = ups ∷ downs ∷ []; prices = places m prices; options = o })) (places n options) l₃
