@@ -161,8 +161,8 @@ ruled Falling = falling
 ruled Closed = falling
 
 -- the round that the reports give
-unfoldable pub roundOf : Auction → Round
-roundOf r = round (r .items) (aboveZero r) (reportsOf r) (ruled (r .phase))
+unfoldable pub roundBy : Auction → Round
+roundBy r = round (r .items) (aboveZero r) (reportsOf r) (ruled (r .phase))
 
 -- the record after a round: a move changes the prices by 1, is counted and empties the reports; a close keeps them
 unfoldable pub settled : Auction → Round → Auction
@@ -220,7 +220,7 @@ endingOf (Refused n) = refused n
 
 -- the answer, and the record handed back
 unfoldable pub endAnswer : Auction → Ending
-endAnswer r = elim (endNumber r) [ zero ↦ gives (roundOf r) | suc j ↦ refused (suc j) ]
+endAnswer r = elim (endNumber r) [ zero ↦ gives (roundBy r) | suc j ↦ refused (suc j) ]
 
 unfoldable pub endNext : Auction → Auction
-endNext r = elim (endNumber r) [ zero ↦ settled r (roundOf r) | suc j ↦ r ]
+endNext r = elim (endNumber r) [ zero ↦ settled r (roundBy r) | suc j ↦ r ]

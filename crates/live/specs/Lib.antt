@@ -1,3 +1,4 @@
 pub mod Reports
 pub mod Auction
 pub mod Calls
+pub mod Reading

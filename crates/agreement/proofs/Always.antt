@@ -1,0 +1,200 @@
+-- Every call hands back a well formed record if it was given one, and an opening that is not turned down makes one: after an opening, 11 applies to no call of any
+-- list, whatever is reported. The record beside an opening that is turned down gets 11. Assumes nothing.
+use Prim.Native.Nat.{ℕ, zero, suc, _+_, _≤_, _<_}
+use mathlib.Core.Path.{_≡_, refl, sym, ap, _∙_, subst}
+use mathlib.Core.Bool.{Bool, true, false, _&&_, _||_, not}
+use mathlib.Core.List.{List, [], _∷_}
+use native.Mathlib.Omega.{arith}
+use native.Mathlib.Decide.{decLe}
+use lib.Dec.{eqb}
+use lib.ListN.{length, getD, replicate, length-set, length-replicate, List·getD-eq-default}
+use borrow.Author.Tests.{eqb-true, ne-eqb}
+use borrow.Author.Tests.{not-false as not-false-is}
+use Rattle.sets.specs.Lists.{places}
+use Rattle.sets.proofs.Counting.{and-both, not-both}
+use Rattle.sets.proofs.Lists.{places-length, places-at}
+use Rattle.rule.specs.Sheet.{amount}
+use Rattle.rule.specs.Demand.{Demand}
+use Rattle.rule.specs.Round.{Round, raised, lowered, closed}
+use Rattle.rule.specs.Refusal.{Refusal, on, first, badItems, badBidders, badLength, anyOver, badBidder}
+use Rattle.rule.proofs.Refusal.{passed, given}
+use Rattle.rule.proofs.Limits.{amount-beyond}
+use Rattle.live.specs.Auction.{hasReported, unfit, missing, risingSet, countsFit, roundsFit, wellFormed}
+use Rattle.live.specs.Calls.{isClosed, isFalling, isRising, atTop, openNumber, zeros, opened, unopened, openAuction, reportNumber, withReport, report, clearNumber, cleared, clear, endNumber, roundBy, settled, gives, refused, endAnswer, endNext}
+use Rattle.live.specs.Reading.{readNumber, readBytes}
+use Rattle.live.specs.declared.Auction.{Auction}
+use Rattle.live.specs.declared.Phase.the-variants.{Rising}
+use Rattle.live.specs.declared.Reply.{Reply}
+use Rattle.agreement.specs.Calls.{Call, reporting, ending, clearing, reading, Answer, told, ended, shown, call, Ran, run}
+use Rattle.agreement.specs.Agreement.{numberOf, never}
+use Rattle.agreement.proofs.Numbers.{first-none, first-nil}
+use Rattle.agreement.proofs.Formed.{in-range, not-over, Formed, formed, well}
+use Rattle.agreement.proofs.Keeps.{without-reports, not-closed, cleared-formed, reported-formed}
+use Rattle.agreement.proofs.Settles.{settled-formed, rising-make}
+
+-- a record is sound if it is well formed; its item sets stand in 64 places, as those of every record of the code do
+pub record Sound (r : Auction) : Type 0 where
+  pub placed : length (r .sets) ≡ 64
+  pub well-formed : wellFormed r ≡ true
+
+-- ---- calls
+
+sets-after : (r : Auction) (x : Round) → length (r .sets) ≡ 64 → length (settled r x .sets) ≡ 64
+unfolding settled
+sets-after r (raised s) e = length-replicate {A = ℕ} 64 0
+sets-after r (lowered s) e = length-replicate {A = ℕ} 64 0
+sets-after r closed e = e
+
+sound-by : (x : ℕ) (new r : Auction) → (x ≡ 0 → Sound new) → Sound r → Sound (elim x [ zero ↦ new | suc j ↦ r ])
+sound-by zero new r f g = f refl
+sound-by (suc j) new r f g = g
+
+-- what it says that a call gets no number
+bidder-range : (n b : ℕ) → badBidder n b ≡ false → (1 ≤ b) × (b ≤ n)
+unfolding badBidder
+bidder-range n b e = in-range n b e
+
+module _ (r : Auction) (g : Sound r) where
+  f : Formed r
+  f = formed r (g .well-formed)
+
+  report-sound : (b : ℕ) (d : Demand) → reportNumber r b d ≡ 0 → Sound (withReport r b d)
+  unfolding reportNumber withReport
+  report-sound b d e =
+      let q₁ = first-none 10 (not (wellFormed r)) _ e in
+      let q₂ = first-none 11 (isClosed (r .phase)) _ (q₁ .1) in
+      let q₃ = first-none 6 (badBidder (r .bidders) b) _ (q₂ .1) in
+      let q₄ = first-none 12 (hasReported r b) _ (q₃ .1) in
+      let q₅ = first-none 7 (unfit (r .items) d) [] (q₄ .1) in
+      let range = bidder-range (r .bidders) b (q₃ .0) in
+      record {
+        placed = length-set (r .sets) _ (d .items) ∙ g .placed;
+        well-formed = well (withReport r b d) (reported-formed r (g .placed) f b d (range .0) (range .1) (q₄ .0) (q₅ .0) (q₂ .0));
+      }
+
+  clear-sound : clearNumber r ≡ 0 → Sound (cleared r)
+  unfolding clearNumber cleared
+  clear-sound e =
+      let q₁ = first-none 10 (not (wellFormed r)) _ e in
+      let q₂ = first-none 11 (isClosed (r .phase)) [] (q₁ .1) in
+      record { placed = length-replicate {A = ℕ} 64 0; well-formed = well (cleared r) (cleared-formed r (q₂ .0) f) }
+
+  end-sound : endNumber r ≡ 0 → Sound (settled r (roundBy r))
+  unfolding endNumber
+  end-sound e =
+      let q₁ = first-none 10 (not (wellFormed r)) _ e in
+      let q₂ = first-none 11 (isClosed (r .phase)) _ (q₁ .1) in
+      let q₃ = first-none 13 (missing r) _ (q₂ .1) in
+      let q₄ = first-none 15 (isFalling (r .phase) && not (eqb (risingSet r) 0)) _ (q₃ .1) in
+      let q₅ = first-none 16 (isRising (r .phase) && atTop (r .items) (r .prices) (risingSet r)) [] (q₄ .1) in
+      record {
+        placed = sets-after r (roundBy r) (g .placed);
+        well-formed = well (settled r (roundBy r)) (settled-formed r f (q₂ .0) (q₃ .0) (q₄ .0) (q₅ .0));
+      }
+
+  pub keeps : (c : Call) → Sound (call r c .next)
+  unfolding call report clear endNext
+  keeps (reporting b d) = sound-by (reportNumber r b d) (withReport r b d) r (report-sound b d) g
+  keeps ending = sound-by (endNumber r) (settled r (roundBy r)) r end-sound g
+  keeps clearing = sound-by (clearNumber r) (cleared r) r clear-sound g
+  keeps (reading out) = g
+
+-- ---- lists of calls
+
+pub keeps-all : (r : Auction) → Sound r → (calls : List Call) → Sound (run r calls .last)
+unfolding run
+keeps-all r g [] = g
+keeps-all r g (c ∷ calls) = keeps-all (call r c .next) (keeps r g c) calls
+
+-- a number that is not the first of a list, nor any later one
+other : (n k : ℕ) (a : Bool) (rest : List Refusal) → (n ≡ k → ⊥) → (first rest ≡ k → ⊥) → first (on n a ∷ rest) ≡ k → ⊥
+unfolding first
+other n k true rest ne h e = ne e
+other n k false rest ne h e = h e
+
+none-eleven : first [] ≡ 11 → ⊥
+unfolding first
+none-eleven e = omega arith
+
+ended-number : (x : ℕ) (y : Round) → numberOf (ended (elim x [ zero ↦ gives y | suc j ↦ refused (suc j) ])) ≡ x
+unfolding numberOf
+ended-number zero y = refl
+ended-number (suc j) y = refl
+
+module _ (r : Auction) (w : wellFormed r ≡ true) where
+  eleven : (rest : List Refusal) → (first rest ≡ 11 → ⊥) → first (on 11 (not (wellFormed r)) ∷ rest) ≡ 11 → ⊥
+  eleven rest h e = h (sym (passed 11 (not (wellFormed r)) rest (ap not w)) ∙ e)
+
+  pub not-eleven : (c : Call) → numberOf (call r c .answer) ≡ 11 → ⊥
+  unfolding call report clear endAnswer reportNumber clearNumber endNumber readNumber numberOf
+  not-eleven (reporting b d) e =
+      eleven _ (other 12 11 _ _ (λ q. omega arith) (other 7 11 _ _ (λ q. omega arith) (other 13 11 _ _ (λ q. omega arith) (other 8 11 _ _ (λ q. omega arith) none-eleven))))
+      e
+  not-eleven ending e =
+      eleven _ (other 12 11 _ _ (λ q. omega arith) (other 14 11 _ _ (λ q. omega arith) (other 16 11 _ _ (λ q. omega arith) (other 17 11 _ _ (λ q. omega arith) none-eleven))))
+      (sym (ended-number (endNumber r) (roundBy r)) ∙ e)
+  not-eleven clearing e = eleven _ (other 12 11 _ _ (λ q. omega arith) none-eleven) e
+  not-eleven (reading out) e = eleven _ (other 15 11 _ _ (λ q. omega arith) (other 3 11 _ _ (λ q. omega arith) none-eleven)) e
+
+pub never-eleven : (r : Auction) → Sound r → (calls : List Call) → never 11 (run r calls .answers) ≡ true
+unfolding run never
+never-eleven r g [] = refl
+never-eleven r g (c ∷ calls) =
+    and-both (not (eqb (numberOf (call r c .answer)) 11)) (never 11 (run (call r c .next) calls .answers))
+    (ap not (ne-eqb (numberOf (call r c .answer)) 11 (not-eleven r (g .well-formed) c))) (never-eleven (call r c .next) (keeps r g c) calls)
+
+-- ---- opening
+
+module _ (m n : ℕ) (start : List ℕ) where
+  opened-formed : openNumber m n start ≡ 0 → Formed (opened m n start)
+  unfolding openNumber opened
+  opened-formed e =
+      let q₁ = first-none 0 (badItems m) _ e in
+      let q₂ = first-none 1 (badBidders n) _ (q₁ .1) in
+      let q₃ = first-none 2 (badLength start m) _ (q₂ .1) in
+      let q₄ = first-none 3 (anyOver start) [] (q₃ .1) in
+      let items : (1 ≤ m) × (m ≤ 32) = in-range 32 m (unfold badItems in q₁ .0) in
+      let bidders : (1 ≤ n) × (n ≤ 64) = in-range 64 n (unfold badBidders in q₂ .0) in
+      without-reports (opened m n start) refl refl refl (items .0) (items .1) (bidders .0) (bidders .1) (range (q₄ .0)) (past (exact (q₃ .0)))
+      (rising-make (opened m n start) refl (omega arith)) (not-closed Rising (opened m n start) refl)
+    where
+      exact : badLength start m ≡ false → length start ≡ m
+      exact e = eqb-true (length start) m (not-false-is (eqb (length start) m) (unfold badLength in e))
+
+      range : anyOver start ≡ false → (i : ℕ) → amount (places 32 start) i ≤ 4095
+      range e zero = unfold amount in omega arith
+      range e (suc k) = go (decLe 32 k)
+        where
+          go : Dec (32 ≤ k) → amount (places 32 start) (suc k) ≤ 4095
+          go (yes l) = omega (arith, amount-beyond 32 (places 32 start) (places-length 32 start) (suc k) (omega arith))
+          go (no l) = unfold amount in omega (arith, places-at 32 start k (omega arith), not-over start e (suc k))
+
+      past : length start ≡ m → (k : ℕ) → k < 32 → m ≤ k → amount (places 32 start) (suc k) ≡ 0
+      past e k l h = unfold amount in places-at 32 start k l ∙ List·getD-eq-default start 0 (omega arith)
+
+  abbrev replied : ℕ → Reply
+  replied x = elim x [ zero ↦ record { number = 0; next = opened m n start } | suc j ↦ unopened (suc j) ]
+
+  pub open-sound : openAuction m n start .number ≡ 0 → Sound (openAuction m n start .next)
+  unfolding openAuction
+  open-sound e = go (openNumber m n start) refl e
+    where
+      go : (x : ℕ) → openNumber m n start ≡ x → replied x .number ≡ 0 → Sound (replied x .next)
+      go zero q h = record { placed = unfold opened in length-replicate {A = ℕ} 64 0; well-formed = well (opened m n start) (opened-formed q) }
+      go (suc j) q h = absurd (let z : suc j ≡ 0 = unfold unopened in h in omega arith)
+
+-- ---- the record beside an opening that is turned down
+
+zeros-malformed : wellFormed zeros ≡ false
+zeros-malformed = go (wellFormed zeros) refl
+  where
+    go : (b : Bool) → wellFormed zeros ≡ b → wellFormed zeros ≡ false
+    go false e = e
+    go true e = absurd (let few : 1 ≤ zeros .items = formed zeros e .some-item in let z : zeros .items ≡ 0 = unfold zeros in refl in omega arith)
+
+pub zeros-eleven : (c : Call) → numberOf (call zeros c .answer) ≡ 11
+unfolding call report clear endAnswer reportNumber clearNumber endNumber readNumber numberOf
+zeros-eleven (reporting b d) = given 11 (not (wellFormed zeros)) _ (ap not zeros-malformed)
+zeros-eleven ending = ended-number (endNumber zeros) (roundBy zeros) ∙ given 11 (not (wellFormed zeros)) _ (ap not zeros-malformed)
+zeros-eleven clearing = given 11 (not (wellFormed zeros)) _ (ap not zeros-malformed)
+zeros-eleven (reading out) = given 11 (not (wellFormed zeros)) _ (ap not zeros-malformed)

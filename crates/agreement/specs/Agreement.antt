@@ -1,0 +1,97 @@
+-- The claim about a whole live list: document 01, "For every sheet and every live list". Assumes nothing: these are definitions.
+use Prim.Native.Nat.{ℕ, zero, suc, _+_, _≤_}
+use mathlib.Core.Bool.{Bool, true, false, _&&_, not}
+use mathlib.Core.List.{List, [], _∷_}
+use mathlib.Core.Path.{_≡_}
+use lib.Dec.{eqb}
+use lib.ListN.{length}
+use Rattle.sets.specs.Count.{toNat}
+use Rattle.sets.specs.Bit.{setOf}
+use Rattle.sets.specs.Lists.{tabulate, places}
+use Rattle.rule.specs.Sheet.{Sheet}
+use Rattle.rule.specs.Round.{Round, closed, close}
+use Rattle.rule.specs.Closing.{roundOf, assignmentAt}
+use Rattle.lines.specs.Lines.{closingLength, writtenTo}
+use Rattle.live.specs.Auction.{wellFormed}
+use Rattle.live.specs.Calls.{openAuction, endNumber, gives, refused, endAnswer}
+use Rattle.live.specs.Reading.{namesOf, readNumber, readBytes}
+use Rattle.live.specs.declared.Auction.{Auction}
+use Rattle.live.specs.declared.Reply.{Reply}
+use Rattle.live.specs.declared.Phase.the-variants.{Closed}
+use Rattle.agreement.specs.Calls.{Call, Answer, told, ended, shown, Ran, run}
+use Rattle.agreement.specs.Machine.{Machine, at, phase, doesStand, said, demandsStand, sealedSheet}
+
+-- a live list: an opening with the sheet's counts and starting prices, then the calls
+unfoldable pub openingOf : Sheet → Reply
+openingOf s = openAuction (s .items) (length (s .bids)) (s .start)
+
+unfoldable pub liveRun : Sheet → List Call → Ran
+liveRun s calls = run (openingOf s .next) calls
+
+-- the record that holds what the machine holds: its prices, rounds raised, rounds lowered, phase and reports
+unfoldable pub standsFor : Sheet → Machine → Auction
+standsFor s t =
+    record {
+      items = s .items;
+      bidders = length (s .bids);
+      prices = places 32 (at s t .prices);
+      sets = tabulate 64 (λ k. said (t .standing (suc k)) .items) 0;
+      nulls = setOf 64 (λ i. said (t .standing i) .null);
+      reported = setOf 64 (λ i. doesStand (t .standing i));
+      phase = phase s t;
+      raised = at s t .ups;
+      lowered = at s t .downs;
+    }
+
+-- the rounds among the answers: moves and a close
+unfoldable pub roundsOf : List Answer → List Round
+roundsOf [] = []
+roundsOf (told n ∷ rest) = roundsOf rest
+roundsOf (ended (gives r) ∷ rest) = r ∷ roundsOf rest
+roundsOf (ended (refused n) ∷ rest) = roundsOf rest
+roundsOf (shown n out ∷ rest) = roundsOf rest
+
+-- the number among an answer, 0 being none
+unfoldable pub numberOf : Answer → ℕ
+numberOf (told n) = n
+numberOf (ended (gives r)) = 0
+numberOf (ended (refused n)) = n
+numberOf (shown n out) = n
+
+-- the number n is not among the answers
+unfoldable pub never : ℕ → List Answer → Bool
+never n [] = true
+never n (a ∷ rest) = not (eqb (numberOf a) n) && never n rest
+
+-- a record that holds the sheet's close: its rounds, prices and names, and a read writes the sealed closing sheet
+pub record ClosedAs (s : Sheet) (r : Auction) : Type 0 where
+  pub all-raised : r .raised ≡ close s .ups
+  pub all-lowered : r .lowered ≡ close s .downs
+  pub at-prices : r .prices ≡ places 32 (close s .prices)
+  pub names : namesOf r ≡ assignmentAt s (close s .prices)
+  pub reads : (out : List ℕ) → closingLength (s .items) (length (s .bids)) ≤ length out → readNumber r out ≡ 0
+  pub reads-sealed : (out : List ℕ) → closingLength (s .items) (length (s .bids)) ≤ length out → readBytes r out ≡ writtenTo out (sealedSheet s)
+
+-- what holds of a live list in which the machine never leaves the sheet, `theirs` being the machine's answers and t its state after the list
+pub record Agrees (s : Sheet) (calls : List Call) (theirs : List Answer) (t : Machine) : Type 0 where
+  -- the opening is not turned down, each call's answer is the machine's, the bytes that a read writes included, and the record after the list holds the
+  -- machine's prices, rounds raised, rounds lowered, phase and reports
+  pub opens : openingOf s .number ≡ 0
+  pub same-answers : liveRun s calls .answers ≡ theirs
+  pub same-record : liveRun s calls .last ≡ standsFor s t
+  -- the rounds answered are the path's, in order, up to the close and not beyond
+  pub rounds : roundsOf theirs ≡ tabulate (t .moves + toNat (t .hasClosed)) (roundOf s) 0
+  pub no-more : t .moves ≤ close s .ups + close s .downs
+  -- the auction is closed if and only if the machine has closed, which is after all of the path's rounds, at its closing prices and names
+  pub closed-only : liveRun s calls .last .phase ≡ Closed → t .hasClosed ≡ true
+  pub closed-when : t .hasClosed ≡ true → liveRun s calls .last .phase ≡ Closed
+  pub after-all : t .hasClosed ≡ true → t .moves ≡ close s .ups + close s .downs
+  pub as-the-sheet : t .hasClosed ≡ true → ClosedAs s (liveRun s calls .last)
+  -- before that, an end that finds each bidder's demand standing gives the path's round, and that is a close if and only if all of the path's rounds are made
+  pub next-round : t .hasClosed ≡ false → demandsStand s t ≡ true → endAnswer (liveRun s calls .last) ≡ gives (roundOf s (t .moves))
+  pub closes-only : roundOf s (t .moves) ≡ closed → t .moves ≡ close s .ups + close s .downs
+  pub closes-when : t .moves ≡ close s .ups + close s .downs → roundOf s (t .moves) ≡ closed
+  -- 11 never applies, and no number, 16 and 17 among them, to an end that finds each bidder's demand standing
+  pub well-formed : wellFormed (liveRun s calls .last) ≡ true
+  pub no-eleven : never 11 theirs ≡ true
+  pub not-refused : t .hasClosed ≡ false → demandsStand s t ≡ true → endNumber (liveRun s calls .last) ≡ 0
