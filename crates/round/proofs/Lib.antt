@@ -1,0 +1,5 @@
+pub mod Filling
+pub mod Adding
+pub mod Reporting
+pub mod Narrowing
+pub mod Moving

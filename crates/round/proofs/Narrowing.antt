@@ -1,0 +1,105 @@
+-- Fewer than 32 items and 64 bidders: where nothing is reported past m items and n bidders, and no price is above 0 past m, the sets at 32 and 64 are
+-- those at m and n. Assumes nothing.
+use Prim.Native.Nat.{ℕ, suc, _^_, _≤_, _<_}
+use mathlib.Core.Path.{_≡_, refl, sym, ap, _∙_, subst}
+use mathlib.Core.Bool.{Bool, true, false, _&&_, not, cond}
+use mathlib.Core.List.{List, map}
+use mathlib.Core.Logic.{_⊎_, inl, inr}
+use native.Mathlib.Omega.{arith}
+use native.Mathlib.Nat.{lt-of-lt-of-le}
+use lib.Dec.{ltb}
+use lib.ListN.{length, getD, length-map, List·getD-eq-default}
+use lib.Pow.{pow-mono, pow-pos}
+use Rattle.sets.specs.Bit.{has, setOf}
+use Rattle.sets.proofs.Bits.{lt-or-le}
+use Rattle.sets.proofs.Members.{has-above, empty-has, setOf-lt, has-setOf, set-ext}
+use Rattle.rule.specs.Sheet.{amount}
+use Rattle.rule.specs.Demand.{Demand, nth}
+use Rattle.rule.specs.Excess.{excessDemand, positiveExcessDemand, excessSupply, positive}
+use Rattle.rule.specs.Profile.{active, inside}
+use Rattle.rule.proofs.Lower.{rising-wide, positive-wide}
+use Rattle.round.specs.Reports.{reports, Reported}
+use Rattle.round.proofs.Reporting.{reports-length, report, map-report, rising-is, kept-is}
+
+-- a set that is given by a test which fails past m
+pub setOf-narrow : (m w : ℕ) (f : ℕ → Bool) → m ≤ w → ((k : ℕ) → m ≤ k → k < w → f (suc k) ≡ false) → setOf w f ≡ setOf m f
+setOf-narrow m w f l off =
+    set-ext w (setOf w f) (setOf m f) (setOf-lt w f) (lt-of-lt-of-le (setOf-lt m f) (pow-mono l)) (λ k lk. has-setOf w f k lk ∙ go k lk (lt-or-le k m))
+  where
+    go : (k : ℕ) → k < w → (k < m) ⊎ (m ≤ k) → f (suc k) ≡ has (setOf m f) (suc k)
+    go k lk (inl q) = sym (has-setOf m f k q)
+    go k lk (inr q) = off k q lk ∙ sym (has-above m (setOf m f) k (setOf-lt m f) q)
+
+pub positive-narrow : (m : ℕ) (p : List ℕ) → m ≤ 32 → ((k : ℕ) → m ≤ k → getD p k 0 ≡ 0) → positive 32 p ≡ positive m p
+unfolding positive amount
+positive-narrow m p l z = setOf-narrow m 32 (λ i. ltb 0 (amount p i)) l (λ k lo lk. ap (ltb 0) (z k lo))
+
+module _ (m n : ℕ) (sets : List ℕ) (r : Reported m n sets) (nulls : ℕ) where
+  len : length (reports n sets nulls) ≡ n
+  len = reports-length n sets nulls
+
+  -- the list of f of each of 64 reports has f of each of n, and nothing past them
+  module _ (f : Demand → ℕ) (none : (said : Bool) → f (record { null = said; items = 0 }) ≡ 0) where
+    here : (b : ℕ) → b < length (reports n sets nulls) → getD (map f (reports 64 sets nulls)) b 0 ≡ f (nth (reports n sets nulls) b)
+    here b l =
+        let lb : b < n = omega (arith, l, len) in
+        map-report f 64 sets nulls b (omega (arith, lb, r .max-bidders)) ∙ ap f (sym (report n sets nulls b lb))
+
+    past : (b : ℕ) → length (reports n sets nulls) ≤ b → getD (map f (reports 64 sets nulls)) b 0 ≡ 0
+    past b l = go (lt-or-le b 64)
+      where
+        go : (b < 64) ⊎ (64 ≤ b) → getD (map f (reports 64 sets nulls)) b 0 ≡ 0
+        go (inl q) =
+            map-report f 64 sets nulls b q ∙ ap (λ (s : ℕ). f (record { null = has nulls (suc b); items = s })) (r .idle b (omega (arith, l, len))) ∙ none (has nulls (suc b))
+        go (inr q) = List·getD-eq-default (map f (reports 64 sets nulls)) 0 {n = b} (omega (arith, q, length-map (reports 64 sets nulls) f, reports-length 64 sets nulls))
+
+  -- ---- the rising set
+
+  active-none : (said : Bool) → active (record { null = said; items = 0 }) ≡ 0
+  unfolding active
+  active-none true = refl
+  active-none false = refl
+
+  active-lt : (b : ℕ) → b < length (reports n sets nulls) → active (nth (reports n sets nulls) b) < 2 ^ m
+  unfolding active
+  active-lt b l =
+      let lb : b < n = omega (arith, l, len) in
+      subst (λ (d : Demand). active d < 2 ^ m) (sym (report n sets nulls b lb)) (go (has nulls (suc b)) (r .small b lb))
+    where
+      go : (said : Bool) → getD sets b 0 < 2 ^ m → cond said 0 (getD sets b 0) < 2 ^ m
+      go true l = pow-pos m
+      go false l = l
+
+  pub rising-narrow : excessDemand 32 (reports 64 sets nulls) ≡ excessDemand m (reports n sets nulls)
+  rising-narrow =
+      sym (rising-is sets nulls (map active (reports 64 sets nulls)) refl)
+      ∙ rising-wide m (reports n sets nulls) (map active (reports 64 sets nulls)) (r .max-items) (omega (arith, len, r .max-bidders)) (here active active-none) (past active active-none) active-lt
+
+  -- ---- the falling set
+
+  module _ (above : ℕ) (la : above < 2 ^ m) where
+    both-false : (a b : Bool) → b ≡ false → a && b ≡ false
+    both-false true b e = e
+    both-false false b e = refl
+
+    inside-narrow : (d : Demand) → inside 32 above d ≡ inside m above d
+    unfolding inside
+    inside-narrow d =
+        setOf-narrow m 32 (λ i. has (d .items) i && has above i) (r .max-items) (λ k l lk. both-false (has (d .items) (suc k)) (has above (suc k)) (has-above m above k la l))
+
+    inside-none : (said : Bool) → inside 32 above (record { null = said; items = 0 }) ≡ 0
+    unfolding inside setOf
+    inside-none said = setOf-narrow 0 32 (λ i. has 0 i && has above i) (omega arith) (λ k l lk. ap (λ (b : Bool). b && has above (suc k)) (empty-has (suc k)))
+
+    kept-narrow : positiveExcessDemand 32 above (reports 64 sets nulls) ≡ positiveExcessDemand m above (reports n sets nulls)
+    kept-narrow =
+        sym (kept-is sets above nulls (map (inside 32 above) (reports 64 sets nulls)) refl)
+        ∙ positive-wide m above (reports n sets nulls) (map (inside 32 above) (reports 64 sets nulls)) (r .max-items) (omega (arith, len, r .max-bidders))
+        (λ b l. here (inside 32 above) inside-none b l ∙ inside-narrow (nth (reports n sets nulls) b)) (past (inside 32 above) inside-none)
+
+    pub falling-narrow : excessSupply 32 above (reports 64 sets nulls) ≡ excessSupply m above (reports n sets nulls)
+    unfolding excessSupply
+    falling-narrow =
+        ap (λ (s : ℕ). setOf 32 (λ i. has above i && not (has s i))) kept-narrow
+        ∙ setOf-narrow m 32 (λ i. has above i && not (has (positiveExcessDemand m above (reports n sets nulls)) i)) (r .max-items)
+        (λ k l lk. ap (λ (b : Bool). b && not (has (positiveExcessDemand m above (reports n sets nulls)) (suc k))) (has-above m above k la l))

@@ -1,0 +1,74 @@
+-- The reports as the code holds them, and what the matching makes of them: the rising set and the falling set. Assumes nothing.
+use Prim.Native.Nat.{ℕ, zero, suc, _+_, _<_}
+use mathlib.Core.Path.{_≡_, refl, sym, ap, _∙_, fun-ext}
+use mathlib.Core.Bool.{_&&_, not, cond}
+use mathlib.Core.List.{List, _∷_, map}
+use native.Mathlib.Nat.{zero-add}
+use native.Mathlib.Numerals.{add-one}
+use lib.ListN.{length, getD, length-map}
+use Rattle.sets.specs.Bit.{has, setOf}
+use Rattle.sets.specs.Lists.{tabulate}
+use Rattle.sets.proofs.Lists.{tabulate-length, tabulate-at}
+use Rattle.matching.specs.Demand.{largestExcess}
+use Rattle.rule.specs.Demand.{Demand, nth}
+use Rattle.rule.specs.Excess.{excessDemand, positiveExcessDemand, excessSupply}
+use Rattle.rule.specs.Profile.{excessOf, active, inside}
+use Rattle.rule.proofs.Profile.{rising-profile, positive-profile}
+use Rattle.rule.proofs.Lower.{largest-same}
+use Rattle.round.specs.Reports.{reports}
+
+pub reports-length : (n : ℕ) (sets : List ℕ) (nulls : ℕ) → length (reports n sets nulls) ≡ n
+unfolding reports
+reports-length n sets nulls = tabulate-length n (λ b. record { null = has nulls (suc b); items = getD sets b 0 }) 0
+
+-- bidder b + 1's report
+pub report : (n : ℕ) (sets : List ℕ) (nulls b : ℕ) → b < n → nth (reports n sets nulls) b ≡ record { null = has nulls (suc b); items = getD sets b 0 }
+unfolding reports nth
+report n sets nulls b l =
+    tabulate-at n (λ b. record { null = has nulls (suc b); items = getD sets b 0 }) 0 b _ l
+    ∙ ap (λ (k : ℕ). record { null = has nulls (suc k); items = getD sets k 0 }) (zero-add b)
+
+map-tabulate : {A : Type 0} (g : A → ℕ) (n : ℕ) (f : ℕ → A) (i : ℕ) → tabulate n (λ k. g (f k)) i ≡ map g (tabulate n f i)
+unfolding tabulate
+map-tabulate g zero f i = refl
+map-tabulate g (suc n) f i = ap (λ (xs : List ℕ). g (f i) ∷ xs) (map-tabulate g n f (suc i))
+
+-- f of bidder b + 1's report
+pub map-report : (f : Demand → ℕ) (n : ℕ) (sets : List ℕ) (nulls b : ℕ) → b < n
+    → getD (map f (reports n sets nulls)) b 0 ≡ f (record { null = has nulls (suc b); items = getD sets b 0 })
+unfolding reports
+map-report f n sets nulls b l =
+    ap (λ (xs : List ℕ). getD xs b 0) (sym (map-tabulate f n (λ b. record { null = has nulls (suc b); items = getD sets b 0 }) 0))
+    ∙ tabulate-at n (λ b. f (record { null = has nulls (suc b); items = getD sets b 0 })) 0 b 0 l
+    ∙ ap (λ (k : ℕ). f (record { null = has nulls (suc k); items = getD sets k 0 })) (zero-add b)
+
+-- what the code hands to the matching, place by place
+pub active-reports : (sets : List ℕ) (nulls : ℕ) → tabulate 64 (λ b. cond (has nulls (b + 1)) 0 (getD sets b 0)) 0 ≡ map active (reports 64 sets nulls)
+unfolding reports active
+active-reports sets nulls =
+    ap (λ (f : ℕ → ℕ). tabulate 64 (λ b. cond (has nulls (f b)) 0 (getD sets b 0)) 0) (fun-ext add-one)
+    ∙ map-tabulate active 64 (λ b. record { null = has nulls (suc b); items = getD sets b 0 }) 0
+
+pub inside-reports : (sets : List ℕ) (above nulls : ℕ)
+    → tabulate 64 (λ b. setOf 32 (λ k. has (getD sets b 0) k && has above k)) 0 ≡ map (inside 32 above) (reports 64 sets nulls)
+unfolding reports inside
+inside-reports sets above nulls = map-tabulate (inside 32 above) 64 (λ b. record { null = has nulls (suc b); items = getD sets b 0 }) 0
+
+-- the largest set in excess demand of the sets that are handed over
+largest-of : (f : Demand → ℕ) (sets : List ℕ) (nulls : ℕ) → largestExcess 32 64 (map f (reports 64 sets nulls)) ≡ excessOf 32 (map f (reports 64 sets nulls))
+largest-of f sets nulls =
+    ap (λ (n : ℕ). largestExcess 32 n (map f (reports 64 sets nulls))) (sym (length-map (reports 64 sets nulls) f ∙ reports-length 64 sets nulls))
+    ∙ sym (largest-same 32 (map f (reports 64 sets nulls)))
+
+pub rising-is : (sets : List ℕ) (nulls : ℕ) (own : List ℕ) → own ≡ map active (reports 64 sets nulls) → largestExcess 32 64 own ≡ excessDemand 32 (reports 64 sets nulls)
+rising-is sets nulls own e = ap (largestExcess 32 64) e ∙ largest-of active sets nulls ∙ sym (rising-profile 32 (reports 64 sets nulls))
+
+pub kept-is : (sets : List ℕ) (above nulls : ℕ) (own : List ℕ) → own ≡ map (inside 32 above) (reports 64 sets nulls)
+    → largestExcess 32 64 own ≡ positiveExcessDemand 32 above (reports 64 sets nulls)
+kept-is sets above nulls own e =
+    ap (largestExcess 32 64) e ∙ largest-of (inside 32 above) sets nulls ∙ sym (positive-profile 32 above (reports 64 sets nulls))
+
+pub falling-is : (sets : List ℕ) (above nulls : ℕ) (own : List ℕ) (kept : ℕ) → own ≡ map (inside 32 above) (reports 64 sets nulls) → kept ≡ largestExcess 32 64 own
+    → setOf 32 (λ k. has above k && not (has kept k)) ≡ excessSupply 32 above (reports 64 sets nulls)
+unfolding excessSupply
+falling-is sets above nulls own kept e q = ap (λ (s : ℕ). setOf 32 (λ k. has above k && not (has s k))) (q ∙ kept-is sets above nulls own e)

@@ -1,0 +1,25 @@
+-- `round::falling` meets its contract. Assumes nothing.
+use mathlib.Core.Path.{_∙_}
+use borrow.Author.Needs.{needs}
+use Rattle.round.proofs.Reporting.{falling-is}
+use Rattle.round.proofs.falling.Statement.{statement}
+use Rattle.round.proofs.falling.Tie as tie
+
+inside-requires : tie.Need-inside-requires
+inside-requires c κs = search needs
+
+excess-demand-requires : tie.Need-excess-demand-requires
+excess-demand-requires c κs = search needs
+
+other-items-requires : tie.Need-other-items-requires
+other-items-requires c κs = search needs
+
+returns : tie.Need-returns
+returns c =
+    let a = c .before .before .before .before .args in
+    let own = c .before .before .before .inside in
+    let kept = c .before .excess-demand in
+    λ nulls. c .other-items .ensures ∙ falling-is (a .sets .now) (a .above) nulls (own .result) (kept .result) (own .ensures nulls) (kept .ensures)
+
+pub falling-spec : {M : Type 1} → statement M
+falling-spec = tie.close (tie.spec inside-requires excess-demand-requires other-items-requires returns)

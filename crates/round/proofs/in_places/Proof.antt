@@ -1,0 +1,59 @@
+-- `round::in_places` meets its contract. Assumes nothing.
+use Prim.Native.Nat.{_-_}
+use mathlib.Core.Path.{_∙_}
+use lib.ListN.{getD}
+use Rattle.round.proofs.Filling.{Filled, fill-start, fill-next, fill-end}
+use Rattle.round.proofs.Moving.{places-is}
+use borrow.Author.Needs.{needs}
+use Rattle.round.proofs.in_places.Statement.{statement}
+use Rattle.round.proofs.in_places.Tie as tie
+
+abbrev Inv-loop : tie.InvT-loop
+Inv-loop start next₀ i₀ next i = Filled 32 (λ k. getD start k 0) i next
+
+abbrev μ-loop : tie.MeasureT-loop
+μ-loop start next₀ i₀ next i = 32 - i
+
+loop-holds : tie.Need-loop-holds Inv-loop μ-loop
+loop-holds c = fill-start 32 _
+
+value-requires : tie.Need-value-requires Inv-loop μ-loop
+value-requires c κs = search needs
+
+mul-next : tie.Need-mul-next Inv-loop μ-loop
+mul-next c = search needs
+
+array-write-next : tie.Need-array-write-next Inv-loop μ-loop
+array-write-next c = search needs
+
+add-i : tie.Need-add-i Inv-loop μ-loop
+add-i c = search needs
+
+loop-less : tie.Need-loop-less Inv-loop μ-loop
+loop-less c = search needs
+
+loop-again : tie.Need-loop-again Inv-loop μ-loop
+loop-again c =
+    let at = c .before .before .loop in
+    fill-next 32 _ (at .i) (at .next) (c .value .result) (at .inv) (c .before .loop-test .taken) (c .value .ensures)
+
+returns : tie.Need-returns Inv-loop μ-loop
+returns c =
+    let a = c .before .before .before .args in
+    let at = c .before .loop in
+    fill-end 32 _ (at .i) (at .next) (at .inv) (c .loop-test .left) ∙ places-is 32 (a .start .now)
+
+pub in-places-spec : {M : Type 1} → statement M
+in-places-spec =
+    tie.close
+    (tie.spec
+    Inv-loop
+    μ-loop
+    loop-holds
+    value-requires
+    mul-next
+    array-write-next
+    add-i
+    loop-less
+    loop-again
+    returns)
