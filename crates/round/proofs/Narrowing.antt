@@ -2,21 +2,21 @@
 -- those at m and n. Assumes nothing.
 use Prim.Native.Nat.{ℕ, suc, _^_, _≤_, _<_}
 use mathlib.Core.Path.{_≡_, refl, sym, ap, _∙_, subst}
-use mathlib.Core.Bool.{Bool, true, false, _&&_, not, cond}
+use mathlib.Core.Bool.{Bool, true, false, _&&_, not}
 use mathlib.Core.List.{List, map}
 use mathlib.Core.Logic.{_⊎_, inl, inr}
 use native.Mathlib.Omega.{arith}
 use native.Mathlib.Nat.{lt-of-lt-of-le}
 use lib.Dec.{ltb}
 use lib.ListN.{length, getD, length-map, List·getD-eq-default}
-use lib.Pow.{pow-mono, pow-pos}
+use lib.Pow.{pow-mono}
 use Rattle.sets.specs.Bit.{has, setOf}
 use Rattle.sets.proofs.Bits.{lt-or-le}
 use Rattle.sets.proofs.Members.{has-above, empty-has, setOf-lt, has-setOf, set-ext}
 use Rattle.rule.specs.Sheet.{amount}
 use Rattle.rule.specs.Demand.{Demand, nth}
 use Rattle.rule.specs.Excess.{excessDemand, positiveExcessDemand, excessSupply, positive}
-use Rattle.rule.specs.Profile.{active, inside}
+use Rattle.rule.proofs.Profile.{active, inside, active-small}
 use Rattle.rule.proofs.Lower.{rising-wide, positive-wide}
 use Rattle.round.specs.Reports.{reports, Reported}
 use Rattle.round.proofs.Reporting.{reports-length, report, map-report, rising-is, kept-is}
@@ -61,18 +61,13 @@ module _ (m n : ℕ) (sets : List ℕ) (r : Reported m n sets) (nulls : ℕ) whe
   active-none false = refl
 
   active-lt : (b : ℕ) → b < length (reports n sets nulls) → active (nth (reports n sets nulls) b) < 2 ^ m
-  unfolding active
   active-lt b l =
       let lb : b < n = omega (arith, l, len) in
-      subst (λ (d : Demand). active d < 2 ^ m) (sym (report n sets nulls b lb)) (go (has nulls (suc b)) (r .small b lb))
-    where
-      go : (said : Bool) → getD sets b 0 < 2 ^ m → cond said 0 (getD sets b 0) < 2 ^ m
-      go true l = pow-pos m
-      go false l = l
+      active-small m (nth (reports n sets nulls) b) (subst (λ (d : Demand). d .items < 2 ^ m) (sym (report n sets nulls b lb)) (r .small b lb))
 
   pub rising-narrow : excessDemand 32 (reports 64 sets nulls) ≡ excessDemand m (reports n sets nulls)
   rising-narrow =
-      sym (rising-is sets nulls (map active (reports 64 sets nulls)) refl)
+      sym (rising-is sets nulls)
       ∙ rising-wide m (reports n sets nulls) (map active (reports 64 sets nulls)) (r .max-items) (omega (arith, len, r .max-bidders)) (here active active-none) (past active active-none) active-lt
 
   -- ---- the falling set
@@ -93,7 +88,7 @@ module _ (m n : ℕ) (sets : List ℕ) (r : Reported m n sets) (nulls : ℕ) whe
 
     kept-narrow : positiveExcessDemand 32 above (reports 64 sets nulls) ≡ positiveExcessDemand m above (reports n sets nulls)
     kept-narrow =
-        sym (kept-is sets above nulls (map (inside 32 above) (reports 64 sets nulls)) refl)
+        sym (kept-is sets above nulls)
         ∙ positive-wide m above (reports n sets nulls) (map (inside 32 above) (reports 64 sets nulls)) (r .max-items) (omega (arith, len, r .max-bidders))
         (λ b l. here (inside 32 above) inside-none b l ∙ inside-narrow (nth (reports n sets nulls) b)) (past (inside 32 above) inside-none)
 

@@ -12,8 +12,7 @@ use Rattle.sets.proofs.Lists.{tabulate-length, tabulate-at}
 use Rattle.matching.specs.Demand.{largestExcess}
 use Rattle.rule.specs.Demand.{Demand, nth}
 use Rattle.rule.specs.Excess.{excessDemand, positiveExcessDemand, excessSupply}
-use Rattle.rule.specs.Profile.{excessOf, active, inside}
-use Rattle.rule.proofs.Profile.{rising-profile, positive-profile}
+use Rattle.rule.proofs.Profile.{excessOf, active, inside, rising-profile, positive-profile}
 use Rattle.rule.proofs.Lower.{largest-same}
 use Rattle.round.specs.Reports.{reports}
 
@@ -42,15 +41,20 @@ map-report f n sets nulls b l =
     ∙ tabulate-at n (λ b. f (record { null = has nulls (suc b); items = getD sets b 0 })) 0 b 0 l
     ∙ ap (λ (k : ℕ). f (record { null = has nulls (suc k); items = getD sets k 0 })) (zero-add b)
 
--- what the code hands to the matching, place by place
-pub active-reports : (sets : List ℕ) (nulls : ℕ) → tabulate 64 (λ b. cond (has nulls (b + 1)) 0 (getD sets b 0)) 0 ≡ map active (reports 64 sets nulls)
+-- what the code hands to the matching, place by place: each bidder's items, or none where null is said; and each bidder's items of `above`
+abbrev pub activeSets : List ℕ → ℕ → List ℕ
+activeSets sets nulls = tabulate 64 (λ b. cond (has nulls (b + 1)) 0 (getD sets b 0)) 0
+
+abbrev pub insideSets : List ℕ → ℕ → List ℕ
+insideSets sets above = tabulate 64 (λ b. setOf 32 (λ k. has (getD sets b 0) k && has above k)) 0
+
+active-reports : (sets : List ℕ) (nulls : ℕ) → activeSets sets nulls ≡ map active (reports 64 sets nulls)
 unfolding reports active
 active-reports sets nulls =
     ap (λ (f : ℕ → ℕ). tabulate 64 (λ b. cond (has nulls (f b)) 0 (getD sets b 0)) 0) (fun-ext add-one)
     ∙ map-tabulate active 64 (λ b. record { null = has nulls (suc b); items = getD sets b 0 }) 0
 
-pub inside-reports : (sets : List ℕ) (above nulls : ℕ)
-    → tabulate 64 (λ b. setOf 32 (λ k. has (getD sets b 0) k && has above k)) 0 ≡ map (inside 32 above) (reports 64 sets nulls)
+inside-reports : (sets : List ℕ) (above nulls : ℕ) → insideSets sets above ≡ map (inside 32 above) (reports 64 sets nulls)
 unfolding reports inside
 inside-reports sets above nulls = map-tabulate (inside 32 above) 64 (λ b. record { null = has nulls (suc b); items = getD sets b 0 }) 0
 
@@ -60,15 +64,18 @@ largest-of f sets nulls =
     ap (λ (n : ℕ). largestExcess 32 n (map f (reports 64 sets nulls))) (sym (length-map (reports 64 sets nulls) f ∙ reports-length 64 sets nulls))
     ∙ sym (largest-same 32 (map f (reports 64 sets nulls)))
 
-pub rising-is : (sets : List ℕ) (nulls : ℕ) (own : List ℕ) → own ≡ map active (reports 64 sets nulls) → largestExcess 32 64 own ≡ excessDemand 32 (reports 64 sets nulls)
-rising-is sets nulls own e = ap (largestExcess 32 64) e ∙ largest-of active sets nulls ∙ sym (rising-profile 32 (reports 64 sets nulls))
+pub rising-is : (sets : List ℕ) (nulls : ℕ) → largestExcess 32 64 (map active (reports 64 sets nulls)) ≡ excessDemand 32 (reports 64 sets nulls)
+rising-is sets nulls = largest-of active sets nulls ∙ sym (rising-profile 32 (reports 64 sets nulls))
 
-pub kept-is : (sets : List ℕ) (above nulls : ℕ) (own : List ℕ) → own ≡ map (inside 32 above) (reports 64 sets nulls)
-    → largestExcess 32 64 own ≡ positiveExcessDemand 32 above (reports 64 sets nulls)
-kept-is sets above nulls own e =
-    ap (largestExcess 32 64) e ∙ largest-of (inside 32 above) sets nulls ∙ sym (positive-profile 32 above (reports 64 sets nulls))
+pub kept-is : (sets : List ℕ) (above nulls : ℕ) → largestExcess 32 64 (map (inside 32 above) (reports 64 sets nulls)) ≡ positiveExcessDemand 32 above (reports 64 sets nulls)
+kept-is sets above nulls = largest-of (inside 32 above) sets nulls ∙ sym (positive-profile 32 above (reports 64 sets nulls))
 
-pub falling-is : (sets : List ℕ) (above nulls : ℕ) (own : List ℕ) (kept : ℕ) → own ≡ map (inside 32 above) (reports 64 sets nulls) → kept ≡ largestExcess 32 64 own
-    → setOf 32 (λ k. has above k && not (has kept k)) ≡ excessSupply 32 above (reports 64 sets nulls)
+-- from what the code's steps answer
+pub rising-found : (sets : List ℕ) (nulls : ℕ) (own : List ℕ) (r : ℕ) → own ≡ activeSets sets nulls → r ≡ largestExcess 32 64 own → r ≡ excessDemand 32 (reports 64 sets nulls)
+rising-found sets nulls own r e q = q ∙ ap (largestExcess 32 64) (e ∙ active-reports sets nulls) ∙ rising-is sets nulls
+
+pub falling-found : (sets : List ℕ) (above nulls : ℕ) (own : List ℕ) (kept r : ℕ) → own ≡ insideSets sets above → kept ≡ largestExcess 32 64 own
+    → r ≡ setOf 32 (λ k. has above k && not (has kept k)) → r ≡ excessSupply 32 above (reports 64 sets nulls)
 unfolding excessSupply
-falling-is sets above nulls own kept e q = ap (λ (s : ℕ). setOf 32 (λ k. has above k && not (has s k))) (q ∙ kept-is sets above nulls own e)
+falling-found sets above nulls own kept r e q s =
+    s ∙ ap (λ (t : ℕ). setOf 32 (λ k. has above k && not (has t k))) (q ∙ ap (largestExcess 32 64) (e ∙ inside-reports sets above nulls) ∙ kept-is sets above nulls)

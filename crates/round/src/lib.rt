@@ -3,15 +3,13 @@
 // of proofs/ carry each result over.
 ghost use mathlib.Core.Path.{_≡_};
 ghost use mathlib.Core.Bool.{cond, _&&_, _||_};
-ghost use mathlib.Core.List.{map};
 ghost use Prim.Native.Nat.{ℕ, _+_, _-_, min};
 ghost use lib.Dec.{eqb};
 ghost use lib.ListN.{getD};
 ghost use Rattle.sets.specs.Bit.{has, setOf};
 ghost use Rattle.sets.specs.Count.{toNat};
-ghost use Rattle.sets.specs.Lists.{places};
+ghost use Rattle.sets.specs.Lists.{tabulate, places};
 ghost use Rattle.rule.specs.Excess.{excessDemand, excessSupply, positive};
-ghost use Rattle.rule.specs.Profile.{active, inside};
 ghost use Rattle.rule.specs.Round.{lower};
 ghost use Rattle.round.specs.Reports.{reports};
 ghost use Rattle.round.specs.Prices.{raisePlaces};
@@ -48,7 +46,7 @@ fn unless(s: u32, off: bool) -> u32
 
 // The item sets of the bidders who do not say null.
 fn active(sets: &[u32; 64], nulls: u64) -> [u32; 64]
-    ensures { λ r. ⌜ r ≡ map active (reports 64 (now (sets .entry)) nulls) ⌝ }
+    ensures { λ r. ⌜ r ≡ tabulate 64 (λ b. cond (has nulls (b + 1)) 0 (getD (now (sets .entry)) b 0)) 0 ⌝ }
 {
     let mut own = [0u32; 64];
     let mut b: usize = 0;
@@ -61,7 +59,7 @@ fn active(sets: &[u32; 64], nulls: u64) -> [u32; 64]
 
 // The item sets, as far as they lie in `above`.
 fn inside(sets: &[u32; 64], above: u32) -> [u32; 64]
-    ensures { λ r. ⌜ ((nulls : ℕ) → r ≡ map (inside 32 above) (reports 64 (now (sets .entry)) nulls)) ⌝ }
+    ensures { λ r. ⌜ r ≡ tabulate 64 (λ b. setOf 32 (λ k. has (getD (now (sets .entry)) b 0) k && has above k)) 0 ⌝ }
 {
     let mut own = [0u32; 64];
     let mut b: usize = 0;

@@ -5,7 +5,6 @@ use mathlib.Core.Bool.{Bool, cond}
 use lib.ListN.{getD}
 use Rattle.sets.specs.Bit.{has}
 use Rattle.round.proofs.Filling.{Filled, fill-start, fill-next, fill-end}
-use Rattle.round.proofs.Reporting.{active-reports}
 use borrow.Author.Needs.{needs}
 use Rattle.round.proofs.active.Statement.{statement}
 use Rattle.round.proofs.active.Tie as tie
@@ -56,9 +55,8 @@ loop-again c =
 
 returns : tie.Need-returns Inv-loop μ-loop
 returns c =
-    let a = c .before .before .args in
     let at = c .before .loop in
-    fill-end 64 _ (at .b) (at .own) (at .inv) (c .loop-test .left) ∙ active-reports (a .sets .now) (a .nulls)
+    fill-end 64 _ (at .b) (at .own) (at .inv) (c .loop-test .left)
 
 pub active-spec : {M : Type 1} → statement M
 active-spec =

@@ -1,7 +1,6 @@
 -- `round::falling` meets its contract. Assumes nothing.
-use mathlib.Core.Path.{_∙_}
 use borrow.Author.Needs.{needs}
-use Rattle.round.proofs.Reporting.{falling-is}
+use Rattle.round.proofs.Reporting.{falling-found}
 use Rattle.round.proofs.falling.Statement.{statement}
 use Rattle.round.proofs.falling.Tie as tie
 
@@ -19,7 +18,7 @@ returns c =
     let a = c .before .before .before .before .args in
     let own = c .before .before .before .inside in
     let kept = c .before .excess-demand in
-    λ nulls. c .other-items .ensures ∙ falling-is (a .sets .now) (a .above) nulls (own .result) (kept .result) (own .ensures nulls) (kept .ensures)
+    λ nulls. falling-found (a .sets .now) (a .above) nulls (own .result) (kept .result) (c .other-items .result) (own .ensures) (kept .ensures) (c .other-items .ensures)
 
 pub falling-spec : {M : Type 1} → statement M
 falling-spec = tie.close (tie.spec inside-requires excess-demand-requires other-items-requires returns)

@@ -1,11 +1,9 @@
 -- `round::inside` meets its contract. Assumes nothing.
 use Prim.Native.Nat.{_-_}
-use mathlib.Core.Path.{_∙_}
 use mathlib.Core.Bool.{_&&_}
 use lib.ListN.{getD}
 use Rattle.sets.specs.Bit.{has, setOf}
 use Rattle.round.proofs.Filling.{Filled, fill-start, fill-next, fill-end}
-use Rattle.round.proofs.Reporting.{inside-reports}
 use borrow.Author.Needs.{needs}
 use Rattle.round.proofs.inside.Statement.{statement}
 use Rattle.round.proofs.inside.Tie as tie
@@ -47,9 +45,8 @@ loop-again c =
 
 returns : tie.Need-returns Inv-loop μ-loop
 returns c =
-    let a = c .before .before .args in
     let at = c .before .loop in
-    λ nulls. fill-end 64 _ (at .b) (at .own) (at .inv) (c .loop-test .left) ∙ inside-reports (a .sets .now) (a .above) nulls
+    fill-end 64 _ (at .b) (at .own) (at .inv) (c .loop-test .left)
 
 pub inside-spec : {M : Type 1} → statement M
 inside-spec =

@@ -1,7 +1,6 @@
 -- `round::rising` meets its contract. Assumes nothing.
-use mathlib.Core.Path.{_∙_}
 use borrow.Author.Needs.{needs}
-use Rattle.round.proofs.Reporting.{rising-is}
+use Rattle.round.proofs.Reporting.{rising-found}
 use Rattle.round.proofs.rising.Statement.{statement}
 use Rattle.round.proofs.rising.Tie as tie
 
@@ -15,7 +14,7 @@ returns : tie.Need-returns
 returns c =
     let a = c .before .before .before .args in
     let own = c .before .before .active in
-    c .excess-demand .ensures ∙ rising-is (a .sets .now) (a .nulls) (own .result) (own .ensures)
+    rising-found (a .sets .now) (a .nulls) (own .result) (c .excess-demand .result) (own .ensures) (c .excess-demand .ensures)
 
 pub rising-spec : {M : Type 1} → statement M
 rising-spec = tie.close (tie.spec active-requires excess-demand-requires returns)
