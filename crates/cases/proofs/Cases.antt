@@ -1,4 +1,4 @@
--- K1 to K9, by computation from the definitions. Assumes nothing.
+-- K1 to K9, each by computation from the definitions: the path's last state, and from it that no earlier round closed. Assumes nothing.
 use Prim.Native.Nat.{ℕ, zero, suc, _+_, _≤_, _<_}
 use mathlib.Core.Bool.{true}
 use mathlib.Core.List.{List, [], _∷_}
@@ -6,6 +6,7 @@ use mathlib.Core.Path.{_≡_, refl, sym, ap, _∙_}
 use mathlib.Core.Logic.{_⊎_, inl, inr}
 use native.Mathlib.Omega.{arith}
 use native.Mathlib.Nat.{not-suc-le-zero}
+use lib.ListN.{length}
 use Rattle.sets.specs.Count.{allBelow, anyBelow, count}
 use Rattle.sets.specs.Bit.{bit, isSet, has, setOf, each, any, size, lowest}
 use Rattle.sets.specs.Sum.{sum}
@@ -17,7 +18,7 @@ use Rattle.rule.specs.Demand.{surplusAtLeast, best, demand, demands, wants, nth
 use Rattle.rule.specs.Excess.{bidders, crowded, inExcess, inPositiveExcess, excessDemand, positiveExcessDemand, excessSupply, positive}
 use Rattle.rule.specs.Round.{raise, lower, Round, raised, lowered, closed, State, roundFalling, round, move, roundAt, after, opening, path}
 use Rattle.rule.specs.Assignment.{option, holders, isAssignment, fits, someList, choose, assignment}
-use Rattle.cases.specs.Cases.{Given, bidding, demanding, Finding, rises, isS~, falls, closes, Closes, Found, Row, Each, Holds, table}
+use Rattle.cases.specs.Cases.{Given, sheet, demanded, Finding, rising, isS~, falling, closing, Closes, Found, Row, Each, Holds, table}
 use Rattle.rule.specs.Closing.{phaseAfter, assignmentAt}
 
 -- ---- a path that counts as many rounds as it took has not closed before
@@ -56,51 +57,85 @@ module _ (m : ℕ) (bids : List (List ℕ)) (s : State) where
           let stay = ap rounds (move-closed m (after m bids s k) (roundAt m bids (after m bids s k)) at) in
           omega (arith, rounds-le k, stay, e)
 
--- ---- what is computed of a row: a close by the path's last state
+-- ---- what is computed of a row: of a close the path's last state
 
-record Last (s : Sheet) (ups downs : ℕ) (prices options : List ℕ) : Type 0 where
+record Last (s : Sheet) (bidders ups downs : ℕ) (prices options : List ℕ) : Type 0 where
   limits : withinLimits s ≡ true
+  counted : length (s .bids) ≡ bidders
   at-close : path s (ups + downs) ≡ record { phase = phaseAfter downs; prices = prices; ups = ups; downs = downs }
   closes : roundAt (s .items) (s .bids) (record { phase = phaseAfter downs; prices = prices; ups = ups; downs = downs }) ≡ closed
   assigned : assignmentAt s prices ≡ options
 
-from-last : (s : Sheet) (ups downs : ℕ) (prices options : List ℕ) → Last s ups downs prices options → Closes s ups downs prices options
+from-last : (s : Sheet) (bidders ups downs : ℕ) (prices options : List ℕ) → Last s bidders ups downs prices options → Closes s bidders ups downs prices options
 unfolding opening path
-from-last s ups downs prices options l =
+from-last s bidders ups downs prices options l =
     record {
       limits = l .limits;
+      counted = l .counted;
       at-close = l .at-close;
       closes = ap (roundAt (s .items) (s .bids)) (l .at-close) ∙ l .closes;
       not-before = not-before (s .items) (s .bids) (opening (s .start)) (ups + downs) (ap rounds (l .at-close) ∙ omega arith);
       assigned = l .assigned;
     }
 
-abbrev Computed : ℕ → Given → Finding → Type 0
-Computed m g (rises is) = Found m g (rises is)
-Computed m g (isS~ is) = Found m g (isS~ is)
-Computed m g (falls is) = Found m g (falls is)
-Computed m (bidding start bids) (closes ups downs prices options) = Last (record { items = m; start = start; bids = bids }) ups downs prices options
-Computed m (demanding above items) (closes ups downs prices options) = ⊥
+abbrev Computed : Given → Finding → Type 0
+Computed g (rising is) = Found g (rising is)
+Computed g (isS~ is) = Found g (isS~ is)
+Computed g (falling is) = Found g (falling is)
+Computed (sheet m n start bs) (closing ups downs prices options) = Last (record { items = m; start = start; bids = bs }) n ups downs prices options
+Computed (demanded m above ds) (closing ups downs prices options) = ⊥
 
-found : (m : ℕ) (g : Given) (f : Finding) → Computed m g f → Found m g f
-found m g (rises is) c = c
-found m g (isS~ is) c = c
-found m g (falls is) c = c
-found m (bidding start bids) (closes ups downs prices options) c = from-last (record { items = m; start = start; bids = bids }) ups downs prices options c
-found m (demanding above items) (closes ups downs prices options) c = c
+found : (g : Given) (f : Finding) → Computed g f → Found g f
+found g (rising is) c = c
+found g (isS~ is) c = c
+found g (falling is) c = c
+found (sheet m n start bs) (closing ups downs prices options) c = from-last (record { items = m; start = start; bids = bs }) n ups downs prices options c
+found (demanded m above ds) (closing ups downs prices options) c = c
 
 each-map : {A : Type 0} (P Q : A → Type 0) → ((a : A) → P a → Q a) → (xs : List A) → Each P xs → Each Q xs
 each-map P Q f [] e = tt
 each-map P Q f (x ∷ xs) e = (f x (e .0), each-map P Q f xs (e .1))
 
 abbrev ComputedRow : Row → Type 0
-ComputedRow r = Each (Computed (r .items) (r .given)) (r .finds)
+ComputedRow r = Each (Computed (r .given)) (r .finds)
 
 computed : Each ComputedRow table
 unfolding withinLimits each4095 path allBelow anyBelow count sum bit isSet has setOf each any size amount row surplusAtLeast best demand demands wants nth bidders crowded inExcess inPositiveExcess largestBelow largest excessDemand positiveExcessDemand excessSupply positive tabulate raise lower roundFalling round move roundAt after opening option holders isAssignment fits someList lowest choose assignment
-computed =
-    ((record { limits = refl; at-close = refl; closes = refl; assigned = refl }, tt), ((refl, (refl, (refl, tt))), ((refl, (refl, tt)), ((refl, (record { limits = refl; at-close = refl; closes = refl; assigned = refl }, tt)), ((record { limits = refl; at-close = refl; closes = refl; assigned = refl }, tt), ((record { limits = refl; at-close = refl; closes = refl; assigned = refl }, tt), ((record { limits = refl; at-close = refl; closes = refl; assigned = refl }, tt), ((record { limits = refl; at-close = refl; closes = refl; assigned = refl }, tt), ((record { limits = refl; at-close = refl; closes = refl; assigned = refl }, tt), tt)))))))))
+computed = (
+  -- K1
+  (record { limits = refl; counted = refl; at-close = refl; closes = refl; assigned = refl }, tt),
+  -- K2
+  (
+    (refl, (refl, (refl, tt))),
+    -- K3
+    (
+      (refl, (refl, tt)),
+      -- K4
+      (
+        (refl, (record { limits = refl; counted = refl; at-close = refl; closes = refl; assigned = refl }, tt)),
+        -- K5
+        (
+          (record { limits = refl; counted = refl; at-close = refl; closes = refl; assigned = refl }, tt),
+          -- K6
+          (
+            (record { limits = refl; counted = refl; at-close = refl; closes = refl; assigned = refl }, tt),
+            -- K7
+            (
+              (record { limits = refl; counted = refl; at-close = refl; closes = refl; assigned = refl }, tt),
+              -- K8
+              (
+                (record { limits = refl; counted = refl; at-close = refl; closes = refl; assigned = refl }, tt),
+                -- K9
+                ((record { limits = refl; counted = refl; at-close = refl; closes = refl; assigned = refl }, tt), tt),
+              ),
+            ),
+          ),
+        ),
+      ),
+    ),
+  ),
+)
 
 -- each row of the table holds
 pub cases : Each Holds table
-cases = each-map ComputedRow Holds (λ r. each-map (Computed (r .items) (r .given)) (Found (r .items) (r .given)) (found (r .items) (r .given)) (r .finds)) table computed
+cases = each-map ComputedRow Holds (λ r. each-map (Computed (r .given)) (Found (r .given)) (found (r .given)) (r .finds)) table computed

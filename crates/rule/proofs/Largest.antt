@@ -70,13 +70,14 @@ module _ (m : ℕ) (f : ℕ → Bool) (empty : f 0 ≡ true) (both : (r s : ℕ)
 -- ---- excess demand, where a bidder counts for s all of whose options that pass `keeps` lie in s: for the rising set those are the demanded options, for
 -- S~ the demanded items of `above`
 
+-- the empty set has no non-empty part
+crowded-empty : (m : ℕ) (ds : List Demand) (counts : Demand → Bool) → crowded m ds counts 0 ≡ true
+unfolding CrowdOf Crowd Part
+crowded-empty m ds counts = crowded-make m ds counts 0 (λ t z i l ti part. absurd (true≢false (sym (part i l ti) ∙ empty-has i)))
+
 module _ (m : ℕ) (ds : List Demand) (keeps : Demand → ℕ → Bool) where
   abbrev counts : ℕ → Demand → Bool
   counts s d = each m λ i. keeps d i ⇒ has s i
-
-  crowded-empty : crowded m ds (counts 0) 0 ≡ true
-  unfolding CrowdOf Crowd Part
-  crowded-empty = crowded-make m ds (counts 0) 0 (λ t z i l ti part. absurd (true≢false (sym (part i l ti) ∙ empty-has i)))
 
   crowded-joined : (r s : ℕ) → ((d : Demand) (i : ℕ) → i < suc m → wants d i ≡ true → has s i ≡ true → keeps d i ≡ true)
       → crowded m ds (counts r) r ≡ true → crowded m ds (counts s) s ≡ true → crowded m ds (counts (joined m r s)) (joined m r s) ≡ true
@@ -101,7 +102,7 @@ module _ (m : ℕ) (ds : List Demand) (keeps : Demand → ℕ → Bool) where
 module _ (m : ℕ) (ds : List Demand) where
   excess-empty : inExcess m ds 0 ≡ true
   unfolding inExcess
-  excess-empty = crowded-empty m ds wants
+  excess-empty = crowded-empty m ds _
 
   pub excess-joined : (r s : ℕ) → inExcess m ds r ≡ true → inExcess m ds s ≡ true → inExcess m ds (joined m r s) ≡ true
   unfolding inExcess
@@ -147,7 +148,7 @@ module _ (m above : ℕ) (ds : List Demand) where
       (all-make (suc m) (λ i. has s i ⇒ has above i) (λ i l. imp-make (has s i) (has above i) (inside i l))) e
 
   positive-empty : inPositiveExcess m above ds 0 ≡ true
-  positive-empty = positive-make 0 (λ i l h. absurd (true≢false (sym h ∙ empty-has i))) (crowded-empty m ds keepsAbove)
+  positive-empty = positive-make 0 (λ i l h. absurd (true≢false (sym h ∙ empty-has i))) (crowded-empty m ds _)
 
   pub positive-joined : (r s : ℕ) → inPositiveExcess m above ds r ≡ true → inPositiveExcess m above ds s ≡ true → inPositiveExcess m above ds (joined m r s) ≡ true
   positive-joined r s er es =

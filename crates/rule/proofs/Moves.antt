@@ -16,11 +16,11 @@ use Rattle.sets.proofs.Lists.{tabulate-length, tabulate-at}
 
 pub raise-length : (m : ℕ) (p : List ℕ) (s : ℕ) → length (raise m p s) ≡ m
 unfolding raise
-raise-length m p s = tabulate-length m (λ i. amount p i + toNat (has s i)) 1
+raise-length m p s = tabulate-length m _ 1
 
 pub lower-length : (m : ℕ) (p : List ℕ) (s : ℕ) → length (lower m p s) ≡ m
 unfolding lower
-lower-length m p s = tabulate-length m (λ i. amount p i - toNat (has s i)) 1
+lower-length m p s = tabulate-length m _ 1
 
 pub raise-at : (m : ℕ) (p : List ℕ) (s i : ℕ) → i < suc m → amount (raise m p s) i ≡ amount p i + toNat (has s i)
 unfolding raise amount
