@@ -9,7 +9,7 @@ use native.Mathlib.Nat.{lt-irrefl}
 use lib.ListN.{length}
 use Rattle.sets.specs.Count.{_⇒_, count}
 use Rattle.sets.specs.Bit.{has, setOf, each, size}
-use Rattle.sets.proofs.Counting.{count-less, and-left, and-right, and-both, imp-use, imp-make, all-use, all-make, or-cases, or-right, is-false, not-both}
+use Rattle.sets.proofs.Counting.{count-less, and-left, and-right, and-both, imp-use, imp-make, all-use, all-make, or-cases, or-left, or-right, is-false, not-both}
 use Rattle.sets.proofs.Members.{setOf-lt, agree, has-zero, empty-has, set-ext, size-count}
 use Rattle.sets.specs.Largest.{largest}
 use Rattle.sets.proofs.Largest.{Largest, largest-is}
@@ -24,9 +24,6 @@ joined m r s = setOf m λ i. has r i || has s i
 
 pub joined-has : (m r s i : ℕ) → i < suc m → has (joined m r s) i ≡ has r i || has s i
 joined-has m r s i l = agree m (λ i. has r i || has s i) (ap₂ _||_ (has-zero r) (has-zero s)) i l
-
-or-left : (a b : Bool) → a ≡ true → a || b ≡ true
-or-left a b e = rw e
 
 joined-left : (m r s i : ℕ) → i < suc m → has r i ≡ true → has (joined m r s) i ≡ true
 joined-left m r s i l h = joined-has m r s i l ∙ or-left (has r i) (has s i) h

@@ -2,10 +2,9 @@
 use Prim.Native.Nat.{ℕ, zero, suc, _+_, _^_, _≤_, _<_}
 use mathlib.Core.Path.{_≡_, refl, sym, ap, _∙_, subst, fun-ext}
 use mathlib.Core.Bool.{Bool, true, false, _&&_}
-use mathlib.Core.List.{List, [], _∷_, map}
+use mathlib.Core.List.{List, map}
 use mathlib.Core.Logic.{_⊎_, inl, inr}
 use native.Mathlib.Omega.{arith}
-use native.Mathlib.Nat.{not-suc-le-zero, le-of-suc-le-suc}
 use lib.Dec.{ltb}
 use lib.ListN.{length, getD, length-map, List·getD-eq-default}
 use Rattle.sets.specs.Count.{_⇒_, allBelow, anyBelow, count}
@@ -24,13 +23,7 @@ use Rattle.rule.proofs.Union.{Part, likes, likes-use, Crowd}
 use Rattle.rule.proofs.Overdemand.{sub, sub-use, sub-make, likes-make}
 use Rattle.rule.proofs.Tests.{CrowdOf, crowded-use, crowded-make}
 use Rattle.rule.proofs.Largest.{demand-excess, demand-bound, demand-has}
-use Rattle.rule.proofs.Profile.{sole, excessOf, active, inside, wants-sole, rising-profile, positive-profile}
-
-nth-sole : (ws : List ℕ) (b : ℕ) → nth (map sole ws) b ≡ sole (getD ws b 0)
-unfolding nth sole
-nth-sole [] b = refl
-nth-sole (w ∷ ws) zero = refl
-nth-sole (w ∷ ws) (suc b) = nth-sole ws b
+use Rattle.rule.proofs.Profile.{sole, excessOf, active, inside, nth-sole, map-at, wants-sole, rising-profile, positive-profile}
 
 wants-nth : (ws : List ℕ) (b i : ℕ) → wants (nth (map sole ws) b) i ≡ has (getD ws b 0) i
 wants-nth ws b i = ap (λ (x : Demand). wants x i) (nth-sole ws b) ∙ wants-sole (getD ws b 0) i
@@ -133,12 +126,6 @@ unfolding largestExcess excess
 largest-cong m n v w h =
     ap (λ (g : ℕ → ℕ). largest m (λ s. allBelow (2 ^ m) λ t.
     anyBelow m (isSet t) && part m t s ⇒ ltb (size m t) (count n λ b. part m (g b) s && meets m (g b) t))) (fun-ext h)
-
-pub map-at : (ds : List Demand) (f : Demand → ℕ) (b : ℕ) → b < length ds → getD (map f ds) b 0 ≡ f (nth ds b)
-unfolding nth
-map-at [] f b l = absurd (not-suc-le-zero l)
-map-at (d ∷ ds) f zero l = refl
-map-at (d ∷ ds) f (suc b) l = map-at ds f b (le-of-suc-le-suc l)
 
 pub map-past : (ds : List Demand) (f : Demand → ℕ) (b : ℕ) → length ds ≤ b → getD (map f ds) b 0 ≡ 0
 map-past ds f b l = List·getD-eq-default (map f ds) 0 {n = b} (omega (arith, length-map ds f))

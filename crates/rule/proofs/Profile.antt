@@ -9,13 +9,13 @@ use native.Mathlib.Omega.{arith}
 use native.Mathlib.Nat.{not-suc-le-zero, le-of-suc-le-suc}
 use lib.Dec.{eqb}
 use lib.Pow.{pow-pos}
-use lib.ListN.{length, length-map}
+use lib.ListN.{length, getD, length-map}
 use borrow.Author.Tests.{eqb-true, eq-eqb, ne-eqb}
 use Rattle.sets.specs.Bit.{isSet, has, setOf}
-use Rattle.sets.proofs.Counting.{count-mono, count-witness, and-left, and-right, and-both, not-both, is-false}
+use Rattle.sets.proofs.Counting.{count-mono, count-witness, and-left, and-right, and-both, not-both}
 use Rattle.sets.proofs.Bits.{lt-or-le}
 use Rattle.sets.proofs.Laws as L
-use Rattle.sets.proofs.Members.{set-ext, setOf-lt, has-setOf, has-zero, empty-has, agree}
+use Rattle.sets.proofs.Members.{same-set, setOf-lt, has-setOf, has-zero, empty-has, agree}
 use Rattle.rule.specs.Demand.{Demand, wants, nth}
 use Rattle.rule.specs.Excess.{nothingOutside, nothingAboveOutside, crowded, inExcess, excessDemand, positiveExcessDemand}
 use Rattle.rule.proofs.Union.{Part, likes, likes-use, Crowd}
@@ -47,25 +47,25 @@ unfolding Crowd
 crowd-change m n d d′ c c′ s h k t z i l ti part =
     omega (arith, k t z i l ti part, count-mono n (λ b. likes m d t b && c b) (λ b. likes m d′ t b && c′ b) (h t part))
 
--- two sets of items 1 to m, each part of the other, are one
-pub same-set : (m r s : ℕ) → r < 2 ^ m → s < 2 ^ m → ((i : ℕ) → i < suc m → has r i ≡ true → has s i ≡ true)
-    → ((i : ℕ) → i < suc m → has s i ≡ true → has r i ≡ true) → r ≡ s
-same-set m r s lr ls there back = set-ext m r s lr ls (λ k l. go (suc k) (omega arith) (has r (suc k)) refl)
-  where
-    go : (i : ℕ) → i < suc m → (b : Bool) → has r i ≡ b → has r i ≡ has s i
-    go i l true e = e ∙ sym (there i l e)
-    go i l false e = e ∙ sym (is-false (has s i) (λ q. not-both (has r i) (back i l q) e))
-
 -- ---- the profile of the item sets f d
 
 others-length : (ds : List Demand) (f : Demand → ℕ) → length (map sole (map f ds)) ≡ length ds
 others-length ds f = length-map (map f ds) sole ∙ length-map ds f
 
-nth-others : (ds : List Demand) (f : Demand → ℕ) (b : ℕ) → b < length ds → nth (map sole (map f ds)) b ≡ sole (f (nth ds b))
+pub nth-sole : (ws : List ℕ) (b : ℕ) → nth (map sole ws) b ≡ sole (getD ws b 0)
+unfolding nth sole
+nth-sole [] b = refl
+nth-sole (w ∷ ws) zero = refl
+nth-sole (w ∷ ws) (suc b) = nth-sole ws b
+
+pub map-at : (ds : List Demand) (f : Demand → ℕ) (b : ℕ) → b < length ds → getD (map f ds) b 0 ≡ f (nth ds b)
 unfolding nth
-nth-others [] f b l = absurd (not-suc-le-zero l)
-nth-others (d ∷ ds) f zero l = refl
-nth-others (d ∷ ds) f (suc b) l = nth-others ds f b (le-of-suc-le-suc l)
+map-at [] f b l = absurd (not-suc-le-zero l)
+map-at (d ∷ ds) f zero l = refl
+map-at (d ∷ ds) f (suc b) l = map-at ds f b (le-of-suc-le-suc l)
+
+nth-others : (ds : List Demand) (f : Demand → ℕ) (b : ℕ) → b < length ds → nth (map sole (map f ds)) b ≡ sole (f (nth ds b))
+nth-others ds f b l = nth-sole (map f ds) b ∙ ap sole (map-at ds f b l)
 
 pub wants-sole : (w i : ℕ) → wants (sole w) i ≡ has w i
 unfolding wants sole
