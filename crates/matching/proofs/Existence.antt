@@ -1,147 +1,93 @@
--- The chain and the placing of the bidders as theorems, with no code: there is always an outcome as the contracts say. Assumes nothing.
+-- The chain and the placing of the bidders with no code: there is always an outcome as the contracts say. Assumes nothing.
 use Prim.Native.Nat.{ℕ, zero, suc, _+_, _-_, _^_, _≤_, _<_}
 use mathlib.Core.Path.{_≡_, refl, sym, ap, _∙_, subst}
-use mathlib.Core.Bool.{Bool, true, false, _&&_, not, true≢false, false≢true}
+use mathlib.Core.Bool.{Bool, true, false, _||_}
 use mathlib.Core.List.{List}
-use mathlib.Core.Logic.{_⊎_, inl, inr}
 use native.Mathlib.Decide.{ℕ-discrete}
 use native.Mathlib.Nat.{le-refl, not-suc-le-zero, lt-suc-self}
 use native.Mathlib.Omega.{arith}
 use native.Mathlib.Numerals.{add-one}
-use lib.Bits.{bitOr}
-use lib.ListN.{getD, set, replicate, length-replicate, getD-replicate}
-use lib.Seq.{getD-set-other}
-use Rattle.sets.specs.Bit.{isSet}
-use Rattle.sets.proofs.Counting.{Least, least, and-left, and-right}
-use Rattle.sets.proofs.Laws.{with-same, with-other, bitsOf, bitsOf-lt, has-bitsOf}
+use lib.Dec.{eqb}
+use lib.ListN.{getD, set, replicate}
+use Rattle.sets.specs.Bit.{isSet, has, setOf, lowest}
+use Rattle.sets.proofs.Members.{bitsOf, bitsOf-lt, isSet-bitsOf}
 use Rattle.matching.specs.Demand.{largestExcess}
-use Rattle.matching.specs.Chain as C
-use Rattle.matching.specs.Chain.{End, left, Kept, Sub, AllStuck, Won, Failed, Placed, Taken, Spare, Settled}
-use Rattle.matching.proofs.Keeps.{no-both, sub-refl, sub-trans, Entered, entered-sub, left-mono, left-less, won-free, won-may, won-step, stuck-mono, placed-on}
-use Rattle.matching.proofs.Decomposition.{holder-is, none-settled, settle-won, settle-failed, settled-largest}
+use Rattle.matching.specs.Chain.{End, left, Kept, Sub, Placed, Taken, Spare, Settled}
+use Rattle.matching.proofs.Holdings.{holder-is}
+use Rattle.matching.proofs.Steps.{sub-refl, left-mono, restOf, Chosen, chosen, chosen-less, won-free, won-may}
+use Rattle.matching.proofs.Outcomes.{taken-now, taken-over, taken-not, placed-none, placed-now, placed-on, stuck-mono}
+use Rattle.matching.proofs.Settling.{none-settled, settle-won, settle-failed}
+use Rattle.matching.proofs.Excess.{settled-largest}
+
+-- an outcome of the bidder side, and of the item side
+abbrev pub PlaceEnds : List ℕ → ℕ → List ℕ → ℕ → ℕ → Type 0
+PlaceEnds d may l e b = (n : List ℕ) × (r : End) × Placed d may l e b n r
+
+abbrev TakeEnds : List ℕ → ℕ → List ℕ → ℕ → ℕ → ℕ → Type 0
+TakeEnds d may l e i b = (n : List ℕ) × (r : End) × Taken d may l e i b n r
 
 -- ---- the item side, where the holder's chain has an outcome
 
-module _ (d : List ℕ) (may : ℕ) (l : List ℕ) (e item b : ℕ) (li : item < 32) (lb : b < 64) (kept : Kept d l)
-    (wants : isSet (getD d b 0) item ≡ true) (entered : isSet e item ≡ true) where
-  given : Won d may l b (set l item (b + 1)) → (n : List ℕ) × (r : End) × Taken d may l e item b n r
-  given w = (
-    set l item (b + 1),
-    record { placed = true; entered = e },
-    record {
-      more = sub-refl e;
-      won = λ q. w;
-      apart = λ q i lk ne h. getD-set-other l item i (b + 1) 0 ne;
-      full = λ q. no-both refl q;
-      failed = λ q. no-both refl q;
-    },
-  )
+module _ (d : List ℕ) (may : ℕ) (l : List ℕ) (e i b : ℕ) (li : i < 32) (lb : b < 64) (kept : Kept d l)
+    (wants : isSet (getD d b 0) i ≡ true) (entered : isSet e i ≡ true) where
+  handed : (getD l i 0 ≡ 0 → ⊥) → isSet may (getD l i 0 - 1) ≡ false → (n : List ℕ) (z : ℕ) (p : Bool)
+      → Placed d may l e (getD l i 0 - 1) n (record { placed = p; entered = z }) → TakeEnds d may l e i b
+  handed ne stays n z true w = (set n i (b + 1), record { placed = true; entered = z }, taken-over d may l e i b li lb wants entered ne n z w)
+  handed ne stays n z false w = (n, record { placed = false; entered = z }, taken-not d may l e i b li lb wants entered ne n z stays w)
 
-  handed : (getD l item 0 ≡ 0 → ⊥) → isSet may (getD l item 0 - 1) ≡ false → (n : List ℕ) (r : End) → Placed d may l e (getD l item 0 - 1) n r
-      → (p : Bool) → r .placed ≡ p → (n : List ℕ) × (r : End) × Taken d may l e item b n r
-  handed ne stay n r w true did = (
-    set n item (b + 1),
-    r,
-    record {
-      more = w .more;
-      won = λ q. won-step d may l n item b li lb wants ne (w .apart did item li entered) (w .won did);
-      apart = λ q i lk f h. getD-set-other n item i (b + 1) 0 f ∙ w .apart did i lk h;
-      full = λ q. no-both did q;
-      failed = λ q. no-both did q;
-    },
-  )
-  handed ne stay n r w false non =
-      (n, r, record { more = w .more; won = λ q. no-both q non; apart = λ q. no-both q non; full = λ q. (ne, stay); failed = w .failed })
-
-  pub take-exists : ((c : ℕ) → c < 64 → (n : List ℕ) × (r : End) × Placed d may l e c n r) → (n : List ℕ) × (r : End) × Taken d may l e item b n r
-  take-exists ih = go (ℕ-discrete (getD l item 0) 0)
+  take-exists : ((c : ℕ) → c < 64 → PlaceEnds d may l e c) → TakeEnds d may l e i b
+  take-exists ih = go (ℕ-discrete (getD l i 0) 0)
     where
-      go₂ : (getD l item 0 ≡ 0 → ⊥) → (q : Bool) → isSet may (getD l item 0 - 1) ≡ q → (n : List ℕ) × (r : End) × Taken d may l e item b n r
-      go₂ ne true q = given (won-may d may l item b kept li lb wants q)
-      go₂ ne false q = let w = ih (getD l item 0 - 1) (holder-is d l item kept li ne .0) in handed ne q (w .0) (w .1) (w .2) (w .1 .placed) refl
+      held : (getD l i 0 ≡ 0 → ⊥) → (q : Bool) → isSet may (getD l i 0 - 1) ≡ q → TakeEnds d may l e i b
+      held ne true q = (set l i (b + 1), record { placed = true; entered = e }, taken-now d may l e i b (won-may d may l i b kept li lb wants q))
+      held ne false q = let w = ih (getD l i 0 - 1) (holder-is d l i kept li ne .0) in handed ne q (w .0) (w .1 .entered) (w .1 .placed) (w .2)
 
-      go : Dec (getD l item 0 ≡ 0) → (n : List ℕ) × (r : End) × Taken d may l e item b n r
-      go (yes z) = given (won-free d may l item b kept li lb wants z)
-      go (no ne) = go₂ ne (isSet may (getD l item 0 - 1)) refl
+      go : Dec (getD l i 0 ≡ 0) → TakeEnds d may l e i b
+      go (yes z) = (set l i (b + 1), record { placed = true; entered = e }, taken-now d may l e i b (won-free d may l i b kept li lb wants z))
+      go (no ne) = held ne (isSet may (getD l i 0 - 1)) refl
 
--- ---- the bidder side
+-- ---- the bidder side, by how many items are not yet entered
 
-failed-within : (d : List ℕ) (may : ℕ) (l : List ℕ) (e w : ℕ) → Sub w e → Failed d may l e w l e
-unfolding AllStuck C.Least
-failed-within d may l e w s = record { still = refl; wants = s; stuck = λ i li h. inl h; least = λ g o v cl. o }
+module _ (k : ℕ) (d : List ℕ) (may : ℕ) (l : List ℕ) (e b : ℕ) (fewer : left e < suc k) (lb : b < 64) (kept : Kept d l)
+    (ih : (n : List ℕ) (f c : ℕ) → left f < k → c < 64 → Kept d n → PlaceEnds d may n f c) where
+  -- what the item side's outcome makes of it
+  ended : (i e′ : ℕ) → Chosen (getD d b 0) e i e′ → left e′ < k → (n : List ℕ) (z : ℕ) (p : Bool)
+      → Taken d may l e′ i b n (record { placed = p; entered = z }) → PlaceEnds d may l e b
+  ended i e′ ch less n z true w = (n, record { placed = true; entered = z }, placed-now d may l e b i e′ n z ch w)
+  ended i e′ ch less n z false w =
+      let kept′ : Kept d n = subst (λ (x : List ℕ). Kept d x) (sym (w .failed refl .still)) kept in
+      let p = ih n z b (omega (arith, left-mono e′ z (w .more))) lb kept′ in
+      (p .0, p .1, placed-on d may l e b i e′ n z (p .0) (p .1) ch w (p .2))
 
--- the item side's success is the bidder side's
-taken-won : (d : List ℕ) (may : ℕ) (l : List ℕ) (e b item e′ : ℕ) (n : List ℕ) (r : End) → Entered e item e′ → isSet e item ≡ false
-    → r .placed ≡ true → Taken d may l e′ item b n r → Placed d may l e b n r
-unfolding Sub
-taken-won d may l e b item e′ n r en new did w =
-    record {
-      more = sub-trans e e′ (r .entered) up (w .more);
-      won = w .won;
-      apart = λ q i li h. w .apart q i li (λ s. no-both (sym (ap (isSet e) s) ∙ h) new) (up i li h);
-      failed = λ q. no-both did q;
-    }
-  where
-    up : Sub e e′
-    up = entered-sub e item e′ en
+  place-step : PlaceEnds d may l e b
+  place-step = go (ℕ-discrete (restOf w e) 0)
+    where
+      w : ℕ
+      w = getD d b 0
 
-not-true : (a : Bool) → not a ≡ true → a ≡ false
-not-true true e = sym e
-not-true false e = refl
+      item : ℕ
+      item = lowest 32 (has (restOf w e))
 
-pub place-exists : (k : ℕ) (d : List ℕ) (may : ℕ) (l : List ℕ) (e b : ℕ) → left e < k → b < 64 → Kept d l → (n : List ℕ) × (r : End) × Placed d may l e b n r
-unfolding Entered Sub
-place-exists zero d may l e b short lb kept = absurd (not-suc-le-zero short)
-place-exists (suc k) d may l e b short lb kept =
-    go (λ n f c. place-exists k d may n f c) (least 32 (λ i. isSet (getD d b 0) i && not (isSet e i)))
-  where
-    Goal : Type 0
-    Goal = (n : List ℕ) × (r : End) × Placed d may l e b n r
+      e′ : ℕ
+      e′ = setOf 32 (λ k. has e k || eqb k item)
 
-    on : ((n : List ℕ) (f c : ℕ) → left f < k → c < 64 → Kept d n → (n′ : List ℕ) × (r : End) × Placed d may n f c n′ r)
-        → (item e′ : ℕ) → item < 32 → Entered e item e′ → isSet e item ≡ false → isSet (getD d b 0) item ≡ true → left e′ < k
-        → (n : List ℕ) (t : End) → Taken d may l e′ item b n t → (p : Bool) → t .placed ≡ p → (n : List ℕ) × (r : End) × Placed d may l e b n r
-    on ih item e′ li en new wants less n t w true did = (n, t, taken-won d may l e b item e′ n t en new did w)
-    on ih item e′ li en new wants less n t w false non =
-        let kept′ : Kept d n = subst (λ (x : List ℕ). Kept d x) (sym (w .failed non .still)) kept in
-        let fewer : left (t .entered) < k = omega (arith, left-mono e′ (t .entered) (w .more)) in
-        let p = ih n (t .entered) b fewer lb kept′ in
-        (p .0, p .1, placed-on d may l e b item e′ n t (p .0) (p .1) li en new wants non w (p .2))
+      go : Dec (restOf w e ≡ 0) → PlaceEnds d may l e b
+      go (yes z) = (l, record { placed = false; entered = e }, placed-none d may l e b z)
+      go (no ne) =
+          let ch = chosen w e (restOf w e) item e′ refl ne refl refl .2 in
+          let less : left e′ < k = omega (arith, chosen-less w e (item - 1) e′ e′ ch (sub-refl e′)) in
+          let t = take-exists d may l e′ (item - 1) b (ch .small) lb kept (ch .wants) (ch .entered) (λ c lc. ih l e′ c less lc kept) in
+          ended (item - 1) e′ ch less (t .0) (t .1 .entered) (t .1 .placed) (t .2)
 
-    within : (a c : Bool) → a && not c ≡ false → a ≡ true → c ≡ true
-    within true true p q = refl
-    within true false p q = absurd (true≢false p)
-    within false c p q = absurd (false≢true q)
-
-    go : ((n : List ℕ) (f c : ℕ) → left f < k → c < 64 → Kept d n → (n′ : List ℕ) × (r : End) × Placed d may n f c n′ r)
-        → Least 32 (λ i. isSet (getD d b 0) i && not (isSet e i)) ⊎ ((i : ℕ) → i < 32 → isSet (getD d b 0) i && not (isSet e i) ≡ false)
-        → (n : List ℕ) × (r : End) × Placed d may l e b n r
-    go ih (inr none) = (
-      l,
-      record { placed = false; entered = e },
-      record {
-        more = sub-refl e;
-        won = λ q. no-both q refl;
-        apart = λ q. no-both q refl;
-        failed = λ q. failed-within d may l e (getD d b 0) (λ i li h. within (isSet (getD d b 0) i) (isSet e i) (none i li) h);
-      },
-    )
-    go ih (inl q) =
-        let item : ℕ = q .at in
-        let li = q .small in
-        let wants = and-left (isSet (getD d b 0) item) (not (isSet e item)) (q .here) in
-        let new = not-true (isSet e item) (and-right (isSet (getD d b 0) item) (not (isSet e item)) (q .here)) in
-        let e′ : ℕ = bitOr e (2 ^ item) in
-        let en : Entered e item e′ = (with-same e item, with-other e item) in
-        let less : left e′ < k = omega (arith, short, left-less e e′ item li (entered-sub e item e′ en) new (with-same e item)) in
-        let w = take-exists d may l e′ item b li lb kept wants (with-same e item) (λ c lc. ih l e′ c less lc kept) in
-        on ih item e′ li en new wants less (w .0) (w .1) (w .2) (w .1 .placed) refl
+pub place-exists : (k : ℕ) (d : List ℕ) (may : ℕ) (l : List ℕ) (e b : ℕ) → left e < k → b < 64 → Kept d l → PlaceEnds d may l e b
+place-exists zero d may l e b fewer lb kept = absurd (not-suc-le-zero fewer)
+place-exists (suc k) d may l e b fewer lb kept = place-step k d may l e b fewer lb kept (λ n f c. place-exists k d may n f c)
 
 -- ---- the bidders one after the other
 
 pub settle-exists : (d : List ℕ) (n : ℕ) → n ≤ 64 → (l : List ℕ) × (w : ℕ) × Settled d l w n
 settle-exists d zero ln =
-    (replicate 32 0, 0, none-settled d (replicate 32 0) (length-replicate {A = ℕ} 32 0) (λ i li. getD-replicate 32 i 0 0 li))
+    (replicate 32 0, 0, none-settled d)
 settle-exists d (suc n) ln = go (settle-exists d n (omega arith))
   where
     next : (l : List ℕ) (w : ℕ) → Settled d l w n → (l′ : List ℕ) (r : End) → Placed d 0 l w n l′ r → (p : Bool) → r .placed ≡ p
@@ -170,10 +116,10 @@ settled-cong d l w x n same s =
           (t .0, t .1, (λ k lk q. sym (same k lk) ∙ t .2 k lk q), t .3, t .4);
     }
 
--- the decomposition theorem: the bidders can be placed so that the largest set in excess demand is what is entered
-pub decomposed : (d : List ℕ) → (l : List ℕ) × Settled d l (largestExcess 32 64 d) 64
-decomposed d =
+-- all bidders can be placed so that the largest set in excess demand is what is entered
+pub settled-exists : (d : List ℕ) → (l : List ℕ) × Settled d l (largestExcess 32 64 d) 64
+settled-exists d =
     let s = settle-exists d 64 (le-refl 64) in
     let x : ℕ = bitsOf 32 (isSet (s .1)) in
-    let t : Settled d (s .0) x 64 = settled-cong d (s .0) (s .1) x 64 (λ i li. sym (has-bitsOf 32 (isSet (s .1)) i li)) (s .2) in
+    let t : Settled d (s .0) x 64 = settled-cong d (s .0) (s .1) x 64 (λ i li. sym (isSet-bitsOf 32 (isSet (s .1)) i li)) (s .2) in
     (s .0, subst (λ (y : ℕ). Settled d (s .0) y 64) (settled-largest d (s .0) x t (bitsOf-lt 32 (isSet (s .1)))) t)

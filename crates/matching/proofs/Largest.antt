@@ -1,21 +1,19 @@
 -- What the tests of `specs/Demand` say, and that the largest set in excess demand is the one that holds all the others. Assumes nothing.
-use Prim.Native.Nat.{ℕ, zero, suc, _^_, _≤_, _<_}
-use mathlib.Core.Path.{_≡_, refl, sym, ap, _∙_, subst}
-use mathlib.Core.Bool.{Bool, true, false, _&&_, cond, true≢false, false≢true}
+use Prim.Native.Nat.{ℕ, _^_, _<_}
+use mathlib.Core.Path.{_≡_, refl, sym, _∙_}
+use mathlib.Core.Bool.{Bool, true, false, _&&_}
 use mathlib.Core.List.{List}
-use mathlib.Core.Logic.{inl, inr}
 use native.Mathlib.Omega.{arith}
-use native.Mathlib.Nat.{not-suc-le-zero, le-refl, lt-irrefl}
-use lib.Dec.{ltb}
+use native.Mathlib.Nat.{lt-irrefl}
 use lib.ListN.{getD}
-use lib.Pow.{pow-pos}
-use borrow.Author.Tests.{ltb-true, ltb-false, lt-ltb}
+use borrow.Author.Tests.{ltb-true, lt-ltb}
 use Rattle.sets.specs.Bit.{isSet, size}
 use Rattle.sets.specs.Count.{_⇒_, anyBelow, count}
-use Rattle.sets.proofs.Counting.{count-less, and-left, and-right, and-both, imp-use, imp-make, all-use, all-make, any-use, any-make, below-suc}
-use Rattle.sets.proofs.Laws.{has-ext, has-zero}
+use Rattle.sets.proofs.Counting.{count-less, and-left, and-right, and-both, imp-use, imp-make, all-use, all-make, any-use, any-make}
+use Rattle.sets.proofs.Members.{isSet-empty, isSet-ext}
 use Rattle.sets.proofs.Largest.{Largest, largest-is}
 use Rattle.matching.specs.Demand.{part, meets, excess, largestExcess}
+use Rattle.matching.proofs.Holdings.{no-both}
 
 -- ---- the tests
 
@@ -61,7 +59,7 @@ excess-make m n ds s h =
     (h t (w .0) (w .1) (w .2) (part-use m t s (and-right (anyBelow m (isSet t)) (part m t s) e))))
 
 pub empty-excess : (m n : ℕ) (ds : List ℕ) → excess m n ds 0 ≡ true
-empty-excess m n ds = excess-make m n ds 0 (λ t i l h sub. absurd (true≢false (sym (sub i l h) ∙ has-zero i)))
+empty-excess m n ds = excess-make m n ds 0 (λ t i l h sub. no-both (sub i l h) (isSet-empty i))
 
 -- ---- the largest
 
@@ -82,7 +80,7 @@ module _ (m n : ℕ) (ds : List ℕ) (w : ℕ) (small : w < 2 ^ m) (in-excess : 
   unfolding size
   same i l true true e g = e ∙ sym g
   same i l false false e g = e ∙ sym g
-  same i l false true e g = absurd (false≢true (sym e ∙ holds r (top .passes) i l g))
+  same i l false true e g = no-both (holds r (top .passes) i l g) e
   same i l true false e g =
       absurd
       (lt-irrefl (count m (isSet r))
@@ -90,4 +88,4 @@ module _ (m n : ℕ) (ds : List ℕ) (w : ℕ) (small : w < 2 ^ m) (in-excess : 
       omega (arith, top .most w small in-excess)))
 
   pub is-largest : w ≡ largestExcess m n ds
-  is-largest = has-ext m w r small (top .bound) (λ i l. same i l (isSet w i) (isSet r i) refl refl)
+  is-largest = isSet-ext m w r small (top .bound) (λ i l. same i l (isSet w i) (isSet r i) refl refl)

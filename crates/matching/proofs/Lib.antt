@@ -1,8 +1,14 @@
--- What the proofs of the functions cite.
-pub mod Keeps
+-- What the proofs of the functions cite, and `Theorems`, what the floors above do.
+pub mod Holdings
+pub mod Steps
+pub mod Outcomes
 pub mod Largest
-pub mod Decomposition
+pub mod Settling
+pub mod Excess
 pub mod Seating
 pub mod Existence
-pub mod Theorems
+pub mod Decomposition
+pub mod Hall
+pub mod BothSides
 pub mod Wider
+pub mod Theorems

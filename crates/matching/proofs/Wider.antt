@@ -11,15 +11,13 @@ use lib.ListN.{getD}
 use lib.Pow.{pow-mono}
 use Rattle.sets.specs.Bit.{isSet}
 use Rattle.sets.specs.Count.{count}
-use Rattle.sets.proofs.Bits.{lt-or-le}
-use Rattle.sets.proofs.Counting.{count-mono, count-cong, count-upto, count-trim, and-left, and-right, and-both}
-use Rattle.sets.proofs.Laws.{has-zero, has-above, has-small, bitsOf, bitsOf-lt, has-bitsOf}
+use Rattle.sets.proofs.Counting.{lt-or-le, count-mono, count-cong, count-upto, count-trim, and-left, and-right, and-both}
+use Rattle.sets.proofs.Members.{isSet-empty, isSet-above, isSet-small, bitsOf, bitsOf-lt, isSet-bitsOf}
 use Rattle.sets.proofs.Largest.{Largest}
 use Rattle.matching.specs.Demand.{part, meets, excess, largestExcess}
-use Rattle.matching.proofs.Keeps.{no-both}
 use Rattle.matching.proofs.Largest.{part-use, part-make, meets-use, meets-make, wanting, excess-use, excess-make, largest-excess, is-largest}
-use Rattle.matching.proofs.Decomposition.{fair-is}
-use Rattle.matching.proofs.Theorems.{Decomposition, decompose, largest-holds}
+use Rattle.matching.proofs.Holdings.{no-both, fair-is}
+use Rattle.matching.proofs.Decomposition.{Decomposition, decompose, largest-holds}
 
 module _ (m n : ℕ) (d : List ℕ) (lm : m ≤ 32) (ln : n ≤ 64)
     (idle : (b : ℕ) → n ≤ b → getD d b 0 ≡ 0) (unwanted : (b i : ℕ) → m ≤ i → isSet (getD d b 0) i ≡ false) where
@@ -29,7 +27,7 @@ module _ (m n : ℕ) (d : List ℕ) (lm : m ≤ 32) (ln : n ≤ 64)
 
   below-is : (s k : ℕ) → k < m → isSet (below s) k ≡ isSet s k
   unfolding below
-  below-is s k l = has-bitsOf m (isSet s) k l
+  below-is s k l = isSet-bitsOf m (isSet s) k l
 
   below-lt : (s : ℕ) → below s < 2 ^ m
   unfolding below
@@ -44,7 +42,7 @@ module _ (m n : ℕ) (d : List ℕ) (lm : m ≤ 32) (ln : n ≤ 64)
     where
       go : (k < m) ⊎ (m ≤ k) → (k < m) × (isSet s k ≡ true)
       go (inl q) = (q, sym (below-is s k q) ∙ h)
-      go (inr q) = no-both h (has-above m (below s) k (below-lt s) q)
+      go (inr q) = no-both h (isSet-above m (below s) k (below-lt s) q)
 
   wants-low : (b k : ℕ) → isSet (getD d b 0) k ≡ true → k < m
   wants-low b k h = go (lt-or-le k m)
@@ -55,7 +53,7 @@ module _ (m n : ℕ) (d : List ℕ) (lm : m ≤ 32) (ln : n ≤ 64)
 
   counts : (t : ℕ) → count 32 (isSet (below t)) ≡ count m (isSet t)
   counts t =
-      count-trim 32 m (isSet (below t)) lm (λ k l u. has-above m (below t) k (below-lt t) l)
+      count-trim 32 m (isSet (below t)) lm (λ k l u. isSet-above m (below t) k (below-lt t) l)
       ∙ count-cong m (isSet (below t)) (isSet t) (λ k l. below-is t k l)
 
   -- the same bidders count, for sets that agree below m
@@ -88,12 +86,12 @@ module _ (m n : ℕ) (d : List ℕ) (lm : m ≤ 32) (ln : n ≤ 64)
       idles b l false q = refl
       idles b l true q =
           let w = meets-use 32 (getD d b 0) t (and-right (part 32 (getD d b 0) s) (meets 32 (getD d b 0) t) q) in
-          no-both (w .2) (ap (λ (x : ℕ). isSet x (w .0)) (idle b l) ∙ has-zero (w .0))
+          no-both (w .2) (ap (λ (x : ℕ). isSet x (w .0)) (idle b l) ∙ isSet-empty (w .0))
 
   module _ (x : ℕ) (top : Largest 32 (2 ^ 32) (excess 32 64 d) x) (h : ℕ → ℕ) (dec : Decomposition d x h)
       (all : (s : ℕ) → excess 32 64 d s ≡ true → (i : ℕ) → i < 32 → isSet s i ≡ true → isSet x i ≡ true) where
     small : x < 2 ^ m
-    small = has-small 32 m x lm (top .bound) (λ k l u. go k l u (isSet x k) refl)
+    small = isSet-small 32 m x lm (top .bound) (λ k l u. go k l u (isSet x k) refl)
       where
         go : (k : ℕ) → m ≤ k → k < 32 → (c : Bool) → isSet x k ≡ c → c ≡ false
         go k l u false q = refl
@@ -128,7 +126,7 @@ module _ (m n : ℕ) (d : List ℕ) (lm : m ≤ 32) (ln : n ≤ 64)
           where
             off : (t : ℕ) → ((k : ℕ) → k < 32 → isSet t k ≡ true → isSet (below s) k ≡ true) → (k : ℕ) → m ≤ k → k < 32 → (c : Bool) → isSet t k ≡ c → c ≡ false
             off t sub k l u false q = refl
-            off t sub k l u true q = no-both (sub k u q) (has-above m (below s) k (below-lt s) l)
+            off t sub k l u true q = no-both (sub k u q) (isSet-above m (below s) k (below-lt s) l)
 
     is : x ≡ largestExcess m n d
     is = is-largest m n d x small in-excess holds

@@ -1,5 +1,5 @@
--- Demand sets, the largest set in excess demand, and matches. A list has one item set for each of the n bidders; an empty set wants nothing.
--- Assumes nothing: these are definitions.
+-- What the matching of bidders to items speaks of: demand sets, sets in excess demand, matches and covering matches. It knows nothing of prices, and
+-- of null only that a bidder's set leaves it out. Place k of a list and bit k of a set stand for number k + 1. Assumes nothing: these are definitions.
 use Prim.Native.Nat.{ℕ, _+_, _-_, _^_, _≤_, _<_}
 use mathlib.Core.Path.{_≡_}
 use mathlib.Core.Bool.{Bool, true, false, _&&_}
@@ -11,15 +11,18 @@ use Rattle.sets.specs.Bit.{isSet, size}
 use Rattle.sets.specs.Count.{_⇒_, allBelow, anyBelow, count}
 use Rattle.sets.specs.Largest.{largest}
 
--- of the m items: each of a is in b
+-- ---- excess demand, among m items and n bidders; ds has one item set for each bidder, and the empty set wants nothing
+
+-- each item of a is in b
 unfoldable pub part : ℕ → ℕ → ℕ → Bool
 part m a b = allBelow m λ i. isSet a i ⇒ isSet b i
 
--- of the m items: one is in both
+-- some item is in both
 unfoldable pub meets : ℕ → ℕ → ℕ → Bool
 meets m a b = anyBelow m λ i. isSet a i && isSet b i
 
--- s is in excess demand: for each non-empty part t of s, t has fewer items than there are bidders whose set lies within s and meets t
+-- the set s is in excess demand: for each non-empty part t of s, more bidders than t has items both want something in t and want
+-- nothing outside s
 unfoldable pub excess : ℕ → ℕ → List ℕ → ℕ → Bool
 excess m n ds s =
     allBelow (2 ^ m) λ t.
@@ -30,9 +33,9 @@ excess m n ds s =
 unfoldable pub largestExcess : ℕ → ℕ → List ℕ → ℕ
 largestExcess m n ds = largest m (excess m n ds)
 
--- ---- matches: h i is 1 more than the bidder that holds item i, or 0 if nobody does
+-- ---- matches: h i is the number of the bidder that holds the item at place i, or 0 if nobody does
 
--- the item i is free, or held by a bidder whose set has it
+-- the item at place i is free, or held by a bidder whose set has it
 unfoldable pub Fair : ℕ → List ℕ → ℕ → ℕ → Type 0
 Fair n ds i h = (h ≡ 0) ⊎ ((h ≤ n) × (isSet (getD ds (h - 1) 0) i ≡ true))
 
@@ -46,7 +49,8 @@ pub record Covering (m n : ℕ) (ds : List ℕ) (bidders items : ℕ) (h : ℕ �
   pub placed : (b : ℕ) → b < n → isSet bidders b ≡ true → (i : ℕ) × (i < m) × (h i ≡ b + 1)
   pub held : (i : ℕ) → i < m → isSet items i ≡ true → h i ≡ 0 → ⊥
 
--- what is said of a match that is asked for: h covers; or nothing does
+-- A covering match or none. FREE is which covering match h is, where there are several: document 01 asks for one, and this says what holds
+-- of it, that it matches and covers. Whether one is found is not free: it is, unless there is none.
 pub record Covered (m n : ℕ) (ds : List ℕ) (bidders items : ℕ) (found : Bool) (h : ℕ → ℕ) : Type 0 where
   pub matching : found ≡ true → Matching m n ds h
   pub covering : found ≡ true → Covering m n ds bidders items h

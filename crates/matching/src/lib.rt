@@ -1,22 +1,23 @@
+// The matching of bidders to items, over demand sets. Items and bidders are numbered from 1: place b - 1 of `demand` has the set of bidder b,
+// and place i - 1 of `holder` the bidder that holds item i, or 0 if nobody does.
 ghost use mathlib.Core.Path.{_≡_};
 ghost use mathlib.Core.Bool.{true, false, _&&_};
-ghost use Prim.Native.Nat.{ℕ, _+_, _≤_, _<_};
+ghost use Prim.Native.Nat.{ℕ, _+_, _-_, _≤_, _<_};
 ghost use lib.ListN.{getD, set, replicate};
 ghost use Rattle.sets.specs.Bit.{isSet};
 ghost use Rattle.matching.specs.Demand.{largestExcess, Covered};
 ghost use Rattle.matching.specs.Chain.{Kept, Placed, Taken, Settled, Seated, Seats};
 
-// holder has, for each item, 1 more than the bidder that holds it, or 0.
-
 // Gives the item to the bidder.
 fn give(holder: &mut [u8; 32], item: usize, bidder: usize)
-    requires { ⌜ (item < 32) × (bidder < 64) ⌝ }
-    ensures { λ _. ⌜ now (holder .exit) ≡ set (now (holder .entry)) item (bidder + 1) ⌝ }
+    requires { ⌜ (0 < item) × (item ≤ 32) × (bidder ≤ 64) ⌝ }
+    ensures { λ _. ⌜ now (holder .exit) ≡ set (now (holder .entry)) (item - 1) bidder ⌝ }
 {
-    holder[item] = (bidder + 1) as u8;
+    holder[item - 1] = bidder as u8;
 }
 
-// The bidder side: tries the lowest item of the bidder's set that is not entered yet, and on failure the next.
+// A displacement chain, the bidder side: tries the lowest item of the bidder's set that is not entered yet, and on failure the next.
+// The number of items not yet entered falls.
 fn place(
     holder: &mut [u8; 32],
     entered: &mut u32,
@@ -24,16 +25,16 @@ fn place(
     may: u64,
     bidder: usize,
 ) -> bool
-    requires { ⌜ (bidder < 64) × Kept (now demand) (now holder) ⌝ }
-    ensures { λ r. ⌜ Placed (now (demand .entry)) may (now (holder .entry)) (now (entered .entry)) bidder
+    requires { ⌜ (0 < bidder) × (bidder ≤ 64) × Kept (now demand) (now holder) ⌝ }
+    ensures { λ r. ⌜ Placed (now (demand .entry)) may (now (holder .entry)) (now (entered .entry)) (bidder - 1)
         (now (holder .exit)) (record { placed = r; entered = now (entered .exit) }) ⌝ }
 {
-    let rest = sets::minus(demand[bidder], *entered);
+    let rest = sets::other_items(demand[bidder - 1], *entered);
     if rest == 0 {
         return false;
     }
-    let item = sets::lowest(rest);
-    *entered = sets::with(*entered, item);
+    let item = sets::lowest_item(rest);
+    *entered = sets::with_item(*entered, item);
     if take(holder, entered, demand, may, item, bidder) {
         return true;
     }
@@ -49,18 +50,17 @@ fn take(
     item: usize,
     bidder: usize,
 ) -> bool
-    requires { ⌜ (item < 32) × (bidder < 64) × Kept (now demand) (now holder)
-        × (isSet (getD (now demand) bidder 0) item ≡ true) × (isSet (now entered) item ≡ true) ⌝ }
-    ensures { λ r. ⌜ Taken (now (demand .entry)) may (now (holder .entry)) (now (entered .entry)) item bidder
+    requires { ⌜ (0 < item) × (item ≤ 32) × (0 < bidder) × (bidder ≤ 64) × Kept (now demand) (now holder)
+        × (isSet (getD (now demand) (bidder - 1) 0) (item - 1) ≡ true) × (isSet (now entered) (item - 1) ≡ true) ⌝ }
+    ensures { λ r. ⌜ Taken (now (demand .entry)) may (now (holder .entry)) (now (entered .entry)) (item - 1) (bidder - 1)
         (now (holder .exit)) (record { placed = r; entered = now (entered .exit) }) ⌝ }
 {
-    let h = holder[item];
-    if h == 0 {
+    let last = holder[item - 1] as usize;
+    if last == 0 {
         give(holder, item, bidder);
         return true;
     }
-    let last = (h - 1) as usize;
-    if sets::has64(may, last) {
+    if sets::has_bidder(may, last) {
         give(holder, item, bidder);
         return true;
     }
@@ -71,43 +71,52 @@ fn take(
     false
 }
 
-// Places the bidders one after the other, where nobody goes without again; answers what failed chains have entered, which stays
-// entered for the next.
-fn settle(holder: &mut [u8; 32], demand: &[u32; 64]) -> u32
+// Places one bidder more, where nobody goes without again. Answers what failed chains have entered: it stays entered for the next bidder,
+// and what a chain that succeeds has entered does not.
+fn settle(holder: &mut [u8; 32], entered: u32, demand: &[u32; 64], bidder: usize) -> u32
+    requires { ⌜ (0 < bidder) × (bidder ≤ 64) × Settled (now demand) (now holder) entered (bidder - 1) ⌝ }
+    ensures { λ r. ⌜ Settled (now (demand .entry)) (now (holder .exit)) r bidder ⌝ }
+{
+    let mut after = entered;
+    if place(holder, &mut after, demand, 0, bidder) {
+        return entered;
+    }
+    after
+}
+
+// Places the bidders one after the other.
+fn settle_all(holder: &mut [u8; 32], demand: &[u32; 64]) -> u32
     requires { ⌜ now holder ≡ replicate 32 0 ⌝ }
     ensures { λ r. ⌜ Settled (now (demand .entry)) (now (holder .exit)) r 64 ⌝ }
 {
     let mut entered: u32 = 0;
     let mut b: usize = 0;
     while b < 64 {
-        let mut e = entered;
-        if !place(holder, &mut e, demand, 0, b) {
-            entered = e;
-        }
         b += 1;
+        entered = settle(holder, entered, demand, b);
     }
     entered
 }
 
-// The largest set in excess demand.
+// The largest set in excess demand: what failed chains have entered when all bidders are placed as far as they can be.
 pub fn excess_demand(demand: &[u32; 64]) -> u32
     ensures { λ r. ⌜ r ≡ largestExcess 32 64 (now (demand .entry)) ⌝ }
 {
     let mut holder = [0u8; 32];
-    settle(&mut holder, demand)
+    settle_all(&mut holder, demand)
 }
 
 // Each bidder's set, as far as it lies in `items`.
 fn within(demand: &[u32; 64], items: u32) -> [u32; 64]
-    ensures { λ r. ⌜ ((b i : ℕ) → b < 64 → isSet (getD r b 0) i ≡ isSet (getD (now (demand .entry)) b 0) i && isSet items i) ⌝ }
+    ensures { λ r. ⌜ ((b i : ℕ) → b < 64 → i < 32 → isSet (getD r b 0) i ≡ isSet (getD (now (demand .entry)) b 0) i && isSet items i) ⌝ }
 {
-    let mut sets = [0u32; 64];
-    let mut b: usize = 0;
-    while b < 64 {
-        sets[b] = sets::common(demand[b], items);
-        b += 1;
+    let mut wanted = [0u32; 64];
+    let mut k: usize = 0;
+    while k < 64 {
+        wanted[k] = sets::common_items(demand[k], items);
+        k += 1;
     }
-    sets
+    wanted
 }
 
 // Whether each of the items is held.
@@ -115,72 +124,76 @@ fn all_held(holder: &[u8; 32], items: u32) -> bool
     ensures { λ r. ⌜ (r ≡ true → (i : ℕ) → i < 32 → isSet items i ≡ true → getD (now (holder .entry)) i 0 ≡ 0 → ⊥)
         × (r ≡ false → (i : ℕ) × (i < 32) × (isSet items i ≡ true) × (getD (now (holder .entry)) i 0 ≡ 0)) ⌝ }
 {
-    let mut i: usize = 0;
-    while i < 32 {
-        if sets::has(items, i) {
-            if holder[i] == 0 {
+    let mut k: usize = 0;
+    while k < 32 {
+        if sets::has_item(items, k + 1) {
+            if holder[k] == 0 {
                 return false;
             }
         }
-        i += 1;
+        k += 1;
     }
     true
 }
 
 // Whether the bidder holds an item.
 fn holds(holder: &[u8; 32], bidder: usize) -> bool
-    requires { ⌜ bidder < 64 ⌝ }
-    ensures { λ r. ⌜ (r ≡ true → (i : ℕ) × (i < 32) × (getD (now (holder .entry)) i 0 ≡ bidder + 1))
-        × (r ≡ false → (i : ℕ) → i < 32 → getD (now (holder .entry)) i 0 ≡ bidder + 1 → ⊥) ⌝ }
+    requires { ⌜ bidder ≤ 64 ⌝ }
+    ensures { λ r. ⌜ (r ≡ true → (i : ℕ) × (i < 32) × (getD (now (holder .entry)) i 0 ≡ bidder))
+        × (r ≡ false → (i : ℕ) → i < 32 → getD (now (holder .entry)) i 0 ≡ bidder → ⊥) ⌝ }
 {
-    let mine = (bidder + 1) as u8;
-    let mut i: usize = 0;
-    while i < 32 {
-        if holder[i] == mine {
+    let mine = bidder as u8;
+    let mut k: usize = 0;
+    while k < 32 {
+        if holder[k] == mine {
             return true;
         }
-        i += 1;
+        k += 1;
     }
     false
 }
 
+const EVERYBODY: u64 = 0xffff_ffff_ffff_ffff;
+
 // Places the bidder if it must be placed and is not; a bidder outside `bidders` may go without.
 fn seat(holder: &mut [u8; 32], demand: &[u32; 64], bidders: u64, bidder: usize) -> bool
-    requires { ⌜ (bidder < 64) × Seated (now demand) bidders (now holder) bidder ⌝ }
-    ensures { λ r. ⌜ Seats (now (demand .entry)) bidders (now (holder .entry)) (bidder + 1) (now (holder .exit)) r ⌝ }
+    requires { ⌜ (0 < bidder) × (bidder ≤ 64) × Seated (now demand) bidders (now holder) (bidder - 1) ⌝ }
+    ensures { λ r. ⌜ Seats (now (demand .entry)) bidders (now (holder .entry)) bidder (now (holder .exit)) r ⌝ }
 {
-    if !sets::has64(bidders, bidder) {
+    if !sets::has_bidder(bidders, bidder) {
         return true;
     }
     if holds(holder, bidder) {
         return true;
     }
-    let may = sets::others64(bidders);
+    let may = sets::other_bidders(EVERYBODY, bidders);
     let mut entered: u32 = 0;
     place(holder, &mut entered, demand, may, bidder)
 }
 
+// Places all that must be placed.
 fn seat_all(holder: &mut [u8; 32], demand: &[u32; 64], bidders: u64) -> bool
     requires { ⌜ Seated (now demand) bidders (now holder) 0 ⌝ }
     ensures { λ r. ⌜ Seats (now (demand .entry)) bidders (now (holder .entry)) 64 (now (holder .exit)) r ⌝ }
 {
     let mut b: usize = 0;
     while b < 64 {
+        b += 1;
         if !seat(holder, demand, bidders, b) {
             return false;
         }
-        b += 1;
     }
     true
 }
 
-// holder has, for each item, 1 more than the bidder that holds it, or 0; zeros only where none is found.
+// A match that was asked for: place i - 1 of `holder` has the bidder that holds item i, or 0. Zeros only where none is found.
 pub struct Coverage {
     pub found: bool,
     pub holder: [u8; 32],
 }
 
-// A match in which each of the bidders is placed and each of the items is held, or none. Which match is free.
+// A match in which each of the bidders is placed and each of the items is held, or none. Which match it is, is free. First the items: the
+// bidders are placed among them alone. Then the bidders: a chain that places one more leaves no item that was held.
 pub fn cover(demand: &[u32; 64], bidders: u64, items: u32) -> Coverage
     ensures { λ r. ⌜ Covered 32 64 (now (demand .entry)) bidders items (r .found) (λ i. getD (r .holder) i 0)
         × (r .found ≡ false → r .holder ≡ replicate 32 0) ⌝ }
@@ -191,7 +204,7 @@ pub fn cover(demand: &[u32; 64], bidders: u64, items: u32) -> Coverage
     };
     let mut holder = [0u8; 32];
     let wanted = within(demand, items);
-    settle(&mut holder, &wanted);
+    settle_all(&mut holder, &wanted);
     if !all_held(&holder, items) {
         return none;
     }

@@ -1,9 +1,10 @@
 -- The laws that several proofs cite.
-pub mod Bits
 pub mod Counting
-pub mod Members
-pub mod Laws
-pub mod Words
 pub mod Sums
+pub mod Bits
+pub mod Members
+pub mod Lowest
+pub mod Words
+pub mod Laws
 pub mod Largest
 pub mod Lists

@@ -1,10 +1,10 @@
 -- `sets::item_count` meets its contract. Assumes nothing.
-use Rattle.sets.proofs.Laws.{ones-size}
+use Rattle.sets.proofs.Members.{size-ones}
 use Rattle.sets.proofs.item_count.Statement.{statement}
 use Rattle.sets.proofs.item_count.Tie as tie
 
 returns : tie.Need-returns
-returns c = ones-size 32 (c .args .s) (c .fits .s .fits)
+returns c = size-ones 32 (c .args .s) (c .fits .s .fits)
 
 pub item-count-spec : {M : Type 1} → statement M
 item-count-spec = tie.close (tie.spec returns)

@@ -8,7 +8,7 @@ only-bidder-requires : tie.Need-only-bidder-requires
 only-bidder-requires c κs = search needs
 
 returns : tie.Need-returns
-returns c = rw (c .only-bidder .ensures) (word-with 64 (c .before .args .s) (c .before .args .i) (c .before .fits .s .fits))
+returns c = rw (c .only-bidder .ensures) (word-with 64 (c .before .args .g) (c .before .args .b) (c .before .fits .g .fits))
 
 pub with-bidder-spec : {M : Type 1} → statement M
 with-bidder-spec = tie.close (tie.spec only-bidder-requires returns)
