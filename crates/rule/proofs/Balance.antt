@@ -1,47 +1,33 @@
--- Where both sets are empty, the prices balance, are the least that do, and the first assignment fits and has the highest total. Assumes nothing.
+-- Where both sets are empty, the first assignment fits, so the prices balance; they are the least prices that do, the only ones where both sets are empty, and
+-- the assignment has the highest total. THEORY.md 2.8 to 2.10. Assumes nothing.
 use Prim.Native.Nat.{ℕ, _+_, suc, _≤_, _<_}
 use mathlib.Core.Path.{_≡_, refl, sym, _∙_, subst}
 use mathlib.Core.Bool.{Bool, true, false, _&&_}
 use mathlib.Core.List.{List}
 use native.Mathlib.Omega.{arith}
 use native.Mathlib.Nat.{le-antisymm}
-use lib.Dec.{ltb}
 use lib.ListN.{length}
-use native.Mathlib.Decide.{decLe}
-use lib.Seq.{ext-getD}
-use borrow.Author.Tests.{lt-ltb}
 use Rattle.sets.specs.Count.{count}
 use Rattle.sets.specs.Bit.{has}
 use Rattle.sets.specs.Sum.{sum}
 use Rattle.sets.proofs.Counting.{count-mono, and-left}
 use Rattle.sets.proofs.Sums.{sum-zero}
-use Rattle.sets.proofs.Members.{agree}
 use Rattle.rule.specs.Sheet.{amount}
 use Rattle.rule.specs.Demand.{demands, wants, nth}
 use Rattle.rule.specs.Excess.{excessDemand, excessSupply, positive}
 use Rattle.rule.specs.Assignment.{option, isAssignment, fits, total, NotAfter, assignment}
 use Rattle.rule.specs.Equilibrium.{Equilibrium, Below}
-use Rattle.rule.proofs.Limits.{amount-beyond}
+pub use Rattle.rule.proofs.Limits.{amount-null}
+pub use Rattle.rule.proofs.AtPrices.{positive-is}
+use Rattle.rule.proofs.Limits.{prices-ext, below-all}
 use Rattle.rule.proofs.Union.{Part, likes, Crowd}
 use Rattle.rule.proofs.Overdemand.{sub}
 use Rattle.rule.proofs.Existence.{assignment-fits}
 use Rattle.rule.proofs.Surplus.{wants-use, lowest-prices}
 use Rattle.rule.proofs.Total.{highest}
 use Rattle.rule.proofs.Order.{choose-first}
-use Rattle.rule.proofs.Fitting.{Fits, assigns-use, fits-use, fits-make, assigns-listed}
-use Rattle.rule.proofs.AtPrices.{bidOf, wanted, wanted-is, demands-length, demands-some, demands-small, tilde, tilde-crowd, tilde-of-empty}
-
--- the items of price above 0, as a test
-pub positive-is : (m : ℕ) (p : List ℕ) (i : ℕ) → i < suc m → has (positive m p) i ≡ ltb 0 (amount p i)
-unfolding positive amount
-positive-is m p i l = agree m (λ i. ltb 0 (amount p i)) refl i l
-
-pub positive-at : (m : ℕ) (p : List ℕ) (i : ℕ) → i < suc m → 0 < amount p i → has (positive m p) i ≡ true
-positive-at m p i l h = positive-is m p i l ∙ lt-ltb 0 (amount p i) h
-
-pub amount-null : (p : List ℕ) → amount p 0 ≡ 0
-unfolding amount
-amount-null p = refl
+use Rattle.rule.proofs.Fitting.{Fits, assigns-use, fits-use, assigns-listed}
+use Rattle.rule.proofs.AtPrices.{bidOf, wanted, wanted-is, demands-length, demands-some, demands-small, positive-at, tilde, tilde-crowd, tilde-of-empty}
 
 -- ---- fitting, of bidders who demand by their bids
 
@@ -56,16 +42,6 @@ module _ (m : ℕ) (bids : List (List ℕ)) (p : List ℕ) (above : ℕ) (xs : L
         wanted = λ b l. sym (wanted-is m bids p b (option xs b) l (f .assigns .small b l)) ∙ f .wanted b l;
         covers = f .covers;
       }
-
-  pub at-fits : Fits m (length bids) (wanted m bids p) (has above) xs → fits m above (demands m bids p) xs ≡ true
-  at-fits f =
-      fits-make m above (demands m bids p) xs
-      (subst (λ (n : ℕ). Fits m n (λ b. wants (nth (demands m bids p) b)) (has above) xs) (sym (demands-length m bids p))
-      (record {
-        assigns = f .assigns;
-        wanted = λ b l. wanted-is m bids p b (option xs b) l (f .assigns .small b l) ∙ f .wanted b l;
-        covers = f .covers;
-      }))
 
 -- ---- where both sets are empty
 
@@ -132,20 +108,6 @@ module _ (m : ℕ) (bids : List (List ℕ)) (p : List ℕ) (above : ℕ)
       lowest-prices m (length bids) (bidOf bids) (amount p) (amount q) (amount-null p)
       (λ a z i l e less. crowd-above m bids p above no-excess no-supply a z i l e (λ j lj u. cheaper j lj (less j lj u)))
       (option (eq .assigned)) (f .assigns .small) (f .wanted) (f .assigns .once)
-
--- ---- lists of prices
-
-pub below-all : (m : ℕ) (p q : List ℕ) → length p ≡ m → ((i : ℕ) → i < suc m → amount p i ≤ amount q i) → Below p q
-unfolding Below
-below-all m p q e h i = go (decLe i m)
-  where
-    go : Dec (i ≤ m) → amount p i ≤ amount q i
-    go (yes l) = h i (omega arith)
-    go (no l) = omega (arith, amount-beyond m p e i (omega arith))
-
-pub prices-ext : (m : ℕ) (p q : List ℕ) → length p ≡ m → length q ≡ m → ((i : ℕ) → i < suc m → amount p i ≡ amount q i) → p ≡ q
-unfolding amount
-prices-ext m p q ep eq h = ext-getD 0 p q (ep ∙ sym eq) (λ i l. h (suc i) (omega arith))
 
 -- ---- the closing prices of items of price 0 or more
 

@@ -1,4 +1,4 @@
--- The first assignment, bidder after bidder: an option is taken if the bidders after it can be completed, and what that asks. Assumes nothing.
+-- The first assignment, bidder after bidder: an option is taken if the later bidders can be completed, and what that asks. THEORY.md 3.2. Assumes nothing.
 use Prim.Native.Nat.{ℕ, zero, suc, _+_, _-_, _≤_, _<_}
 use mathlib.Core.Path.{_≡_, sym, ap, _∙_, fun-ext}
 use mathlib.Core.Bool.{Bool, true}

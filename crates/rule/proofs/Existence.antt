@@ -1,6 +1,6 @@
 -- Where both sets are empty some assignment fits, by the matching's theorems: the rising set empty gives, by Hall's theorem, a match that places every
 -- bidder who does not demand null; the falling set empty says that the items of `above` are the largest set in excess of the demands within them, all of
--- which the decomposition holds; and then one match does both. PROOFS.md 2.9. Assumes nothing.
+-- which the decomposition holds; and then one match does both. THEORY.md 2.9. Assumes nothing.
 use Prim.Native.Nat.{ℕ, zero, suc, _+_, _-_, _^_, _≤_, _<_}
 use mathlib.Core.Path.{_≡_, sym, ap, _∙_}
 use mathlib.Core.Bool.{true, false, _&&_, not, true≢false}

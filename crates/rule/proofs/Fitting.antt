@@ -1,4 +1,4 @@
--- What it says that a list of options is an assignment, and that it fits. Assumes nothing.
+-- What it says, bidder by bidder, that a list of options is an assignment, and that it fits. THEORY.md 2.9. Assumes nothing.
 use Prim.Native.Nat.{ℕ, zero, suc, _≤_, _<_}
 use mathlib.Core.Path.{_≡_, refl, sym}
 use mathlib.Core.Bool.{Bool, true, _&&_}

@@ -1,4 +1,5 @@
--- The rising set and S~ are in excess demand, hold every set that is, and are the only largest ones. Assumes nothing.
+-- The rising set and S~ are in excess demand, hold every set that is, and are unique: a set in excess demand that is as large is the same. The falling set
+-- is what S~ leaves of `above`. THEORY.md 1.1. Assumes nothing.
 use Prim.Native.Nat.{ℕ, suc, _^_, _≤_, _<_}
 use mathlib.Core.Path.{_≡_, refl, sym, ap, ap₂, _∙_}
 use mathlib.Core.Bool.{Bool, true, false, _&&_, _||_, not, true≢false}

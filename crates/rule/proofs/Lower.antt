@@ -1,4 +1,4 @@
--- What the lower part, the matching, answers is what the definitions ask: the largest sets, and the completion of an assignment. Assumes nothing.
+-- The largest set in excess demand that the matching answers, for 32 items and 64 bidders, is the rising set, and S~. THEORY.md 1.2. Assumes nothing.
 use Prim.Native.Nat.{ℕ, zero, suc, _+_, _^_, _≤_, _<_}
 use mathlib.Core.Path.{_≡_, refl, sym, ap, _∙_, subst, fun-ext}
 use mathlib.Core.Bool.{Bool, true, false, _&&_}
@@ -19,8 +19,8 @@ use Rattle.matching.proofs.Largest.{part-use, part-make, meets-use, meets-make,
 use Rattle.matching.proofs.Wider.{largest-wide}
 use Rattle.rule.specs.Demand.{Demand, wants, nth}
 use Rattle.rule.specs.Excess.{nothingOutside, inExcess, excessDemand, positiveExcessDemand}
-use Rattle.rule.proofs.Union.{Part, likes, likes-use, Crowd}
-use Rattle.rule.proofs.Overdemand.{sub, sub-use, sub-make, likes-make}
+use Rattle.rule.proofs.Union.{Part, likes, likes-use, likes-make, Crowd}
+use Rattle.rule.proofs.Overdemand.{sub, sub-use, sub-make}
 use Rattle.rule.proofs.Tests.{CrowdOf, crowded-use, crowded-make}
 use Rattle.rule.proofs.Largest.{demand-excess, demand-bound, demand-has}
 use Rattle.rule.proofs.Profile.{sole, excessOf, active, inside, nth-sole, map-at, wants-sole, rising-profile, positive-profile}

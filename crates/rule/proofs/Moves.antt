@@ -1,4 +1,4 @@
--- Prices after a round, by item. Assumes nothing.
+-- Prices after a round, item by item. Assumes nothing.
 use Prim.Native.Nat.{ℕ, zero, suc, _+_, _-_, _^_, _≤_, _<_}
 use mathlib.Core.Path.{_≡_, refl, ap, _∙_}
 use mathlib.Core.Bool.{Bool, true, false}

@@ -1,5 +1,5 @@
 -- Both sets are one function of item sets, which is all that the lower part, the matching, knows: the rising set is the largest set in excess demand of
--- the items of the bidders who do not demand null, and S~ that of the demanded items of `above`. PROOFS.md 1.2. Assumes nothing.
+-- the items of the bidders who do not demand null, and S~ that of the demanded items of `above`. THEORY.md 1.2. Assumes nothing.
 use Prim.Native.Nat.{ℕ, zero, suc, _^_, _≤_, _<_}
 use mathlib.Core.Path.{_≡_, refl, sym, ap, _∙_, subst}
 use mathlib.Core.Bool.{Bool, true, false, _&&_, cond}
@@ -18,8 +18,8 @@ use Rattle.sets.proofs.Laws as L
 use Rattle.sets.proofs.Members.{same-set, setOf-lt, has-setOf, has-zero, empty-has, agree}
 use Rattle.rule.specs.Demand.{Demand, wants, nth}
 use Rattle.rule.specs.Excess.{nothingOutside, nothingAboveOutside, crowded, inExcess, excessDemand, positiveExcessDemand}
-use Rattle.rule.proofs.Union.{Part, likes, likes-use, Crowd}
-use Rattle.rule.proofs.Overdemand.{sub, sub-use, sub-make, likes-make}
+use Rattle.rule.proofs.Union.{Part, likes, likes-use, likes-make, Crowd}
+use Rattle.rule.proofs.Overdemand.{sub, sub-use, sub-make}
 use Rattle.rule.proofs.Tests.{CrowdOf, crowded-use, crowded-make}
 use Rattle.rule.proofs.Largest.{demand-excess, demand-bound, demand-has, positive-above, positive-crowded, positive-has, positive-make, positive-bound}
 
