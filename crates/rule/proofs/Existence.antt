@@ -12,9 +12,8 @@ use lib.Dec.{ltb}
 use lib.ListN.{length, getD}
 use borrow.Author.Tests.{ltb-true, lt-ltb}
 use Rattle.sets.specs.Bit.{isSet, has}
-use Rattle.sets.proofs.Counting.{and-left, and-right, and-both, not-both, not-is}
-use Rattle.sets.proofs.Bits.{lt-or-le}
-use Rattle.sets.proofs.Laws as L
+use Rattle.sets.proofs.Members.{isSet-empty, isSet-above, bitsOf, isSet-bitsOf}
+use Rattle.sets.proofs.Counting.{lt-or-le, and-left, and-right, and-both, not-both, not-is}
 use Rattle.matching.specs.Demand.{largestExcess, Fair, Matching, Covering}
 use Rattle.matching.proofs.Theorems.{AllPlaced, hall, decompose, both-sides}
 use Rattle.rule.specs.Demand.{Demand, wants, nth}
@@ -53,37 +52,37 @@ module _ (m above : ℕ) (ds : List Demand) (lm : m ≤ 32) (ln : length ds ≤ 
       go (inl l) =
           ap (λ (x : ℕ). isSet x i) (map-at ds (λ d. d .items) b l)
           ∙ up (nth ds b) i (sym (ap (λ (x : ℕ). isSet x i) (map-at ds f b l)) ∙ e)
-      go (inr l) = absurd (not-both (isSet 0 i) (sym (ap (λ (x : ℕ). isSet x i) (map-past ds f b l)) ∙ e) (L.has-zero i))
+      go (inr l) = absurd (not-both (isSet 0 i) (sym (ap (λ (x : ℕ). isSet x i) (map-past ds f b l)) ∙ e) (isSet-empty i))
 
   -- the bidders who do not demand null, and the items of `above`
   must : ℕ
-  must = L.bitsOf 64 (λ b. ltb b (length ds) && not (nth ds b .null))
+  must = bitsOf 64 (λ b. ltb b (length ds) && not (nth ds b .null))
 
   need : ℕ
-  need = L.bitsOf 32 (λ k. ltb k m && has above (suc k))
+  need = bitsOf 32 (λ k. ltb k m && has above (suc k))
 
   must-use : (b : ℕ) → b < 64 → isSet must b ≡ true → (b < length ds) × (nth ds b .null ≡ false)
   unfolding must
   must-use b l e =
-      let q = sym (L.has-bitsOf 64 (λ b. ltb b (length ds) && not (nth ds b .null)) b l) ∙ e in
+      let q = sym (isSet-bitsOf 64 (λ b. ltb b (length ds) && not (nth ds b .null)) b l) ∙ e in
       (ltb-true b (length ds) (and-left (ltb b (length ds)) _ q), not-is (nth ds b .null) (and-right (ltb b (length ds)) _ q))
 
   must-make : (b : ℕ) → b < length ds → nth ds b .null ≡ false → isSet must b ≡ true
   unfolding must
   must-make b l e =
-      L.has-bitsOf 64 (λ b. ltb b (length ds) && not (nth ds b .null)) b (omega arith)
+      isSet-bitsOf 64 (λ b. ltb b (length ds) && not (nth ds b .null)) b (omega arith)
       ∙ and-both (ltb b (length ds)) (not (nth ds b .null)) (lt-ltb b (length ds) l) (ap not e)
 
   need-use : (k : ℕ) → k < 32 → isSet need k ≡ true → (k < m) × (has above (suc k) ≡ true)
   unfolding need
   need-use k l e =
-      let q = sym (L.has-bitsOf 32 (λ k. ltb k m && has above (suc k)) k l) ∙ e in
+      let q = sym (isSet-bitsOf 32 (λ k. ltb k m && has above (suc k)) k l) ∙ e in
       (ltb-true k m (and-left (ltb k m) _ q), and-right (ltb k m) _ q)
 
   need-make : (k : ℕ) → k < m → has above (suc k) ≡ true → isSet need k ≡ true
   unfolding need
   need-make k l e =
-      L.has-bitsOf 32 (λ k. ltb k m && has above (suc k)) k (omega arith) ∙ and-both (ltb k m) (has above (suc k)) (lt-ltb k m l) e
+      isSet-bitsOf 32 (λ k. ltb k m && has above (suc k)) k (omega arith) ∙ and-both (ltb k m) (has above (suc k)) (lt-ltb k m l) e
 
   -- ---- both matches, and one that does both
 
@@ -140,14 +139,14 @@ module _ (m above : ℕ) (ds : List Demand) (lm : m ≤ 32) (ln : length ds ≤ 
     where
       own : (c k : ℕ) → k < 32 → isSet (getD sets c 0) k ≡ true → (c < length ds) ⊎ (length ds ≤ c)
           → (0 ≤ c) × (c < length ds) × (k < m) × (has (nth ds c .items) (suc k) ≡ true) × ((a : ℕ) → a < 0 → option [] a ≡ suc k → ⊥)
-      own c k lk e (inr l) = absurd (not-both (isSet 0 k) (sym (ap (λ (x : ℕ). isSet x k) (map-past ds (λ d. d .items) c l)) ∙ e) (L.has-zero k))
+      own c k lk e (inr l) = absurd (not-both (isSet 0 k) (sym (ap (λ (x : ℕ). isSet x k) (map-past ds (λ d. d .items) c l)) ∙ e) (isSet-empty k))
       own c k lk e (inl l) =
           let in-c : isSet (nth ds c .items) k ≡ true = sym (ap (λ (x : ℕ). isSet x k) (map-at ds (λ d. d .items) c l)) ∙ e in
           (omega arith, l, low in-c (lt-or-le k m), item-bit (nth ds c .items) k ∙ in-c, λ a la. absurd (not-suc-le-zero la))
         where
           low : isSet (nth ds c .items) k ≡ true → (k < m) ⊎ (m ≤ k) → k < m
           low h (inl q) = q
-          low h (inr q) = absurd (not-both (isSet (nth ds c .items) k) h (L.has-above m (nth ds c .items) k (small c l) q))
+          low h (inr q) = absurd (not-both (isSet (nth ds c .items) k) h (isSet-above m (nth ds c .items) k (small c l) q))
 
   some-fits : someList m (length ds) (fits m above ds) ≡ true
   some-fits =

@@ -10,8 +10,8 @@ use native.Mathlib.Nat.{lt-irrefl}
 use lib.ListN.{length}
 use Rattle.sets.specs.Count.{_⇒_, count}
 use Rattle.sets.specs.Bit.{has, setOf, each, size}
-use Rattle.sets.proofs.Counting.{count-less, and-left, and-right, and-both, imp-use, imp-make, all-use, all-make, or-cases, or-left, or-right, is-false, not-both}
-use Rattle.sets.proofs.Members.{setOf-lt, agree, has-zero, empty-has, set-ext, size-count}
+use Rattle.sets.proofs.Counting.{count-less, and-left, and-right, and-both, imp-use, imp-make, all-use, all-make, or-cases, or-left, or-right, not-both}
+use Rattle.sets.proofs.Members.{setOf-lt, agree, has-zero, empty-has, same-set, size-count}
 use Rattle.sets.specs.Largest.{largest}
 use Rattle.sets.proofs.Largest.{Largest, largest-is}
 use Rattle.rule.specs.Demand.{Demand, wants, nth}
@@ -56,14 +56,18 @@ module _ (m : ℕ) (f : ℕ → Bool) (empty : f 0 ≡ true) (both : (r s : ℕ)
           omega (arith, no-more, size-count m r, size-count m (joined m r s))))
 
   pub largest-only : (s : ℕ) → s < 2 ^ m → f s ≡ true → size m (largest m f) ≤ size m s → s ≡ largest m f
-  largest-only s l fs big = set-ext m s (largest m f) l (largest-top .bound) (λ k lk. same (suc k) (omega arith) (has s (suc k)) refl)
+  largest-only s l fs big = same-set m s (largest m f) l (largest-top .bound) (largest-has s fs) (λ i li q. go i li q (has s i) refl)
     where
       r : ℕ
       r = largest m f
 
-      same : (i : ℕ) → i < suc m → (b : Bool) → has s i ≡ b → has s i ≡ has r i
-      same i li true e = e ∙ sym (largest-has s fs i li e)
-      same i li false e = e ∙ sym (is-false (has r i) (λ q. lt-irrefl (count (suc m) (has s)) (let more = count-less (suc m) (has s) (has r) (largest-has s fs) i li q e in omega (arith, big, size-count m r, size-count m s))))
+      go : (i : ℕ) → i < suc m → has r i ≡ true → (b : Bool) → has s i ≡ b → b ≡ true
+      go i li q true e = refl
+      go i li q false e =
+          absurd
+          (lt-irrefl (count (suc m) (has s))
+          (let more = count-less (suc m) (has s) (has r) (largest-has s fs) i li q e in
+          omega (arith, big, size-count m r, size-count m s)))
 
 -- ---- excess demand, where a bidder counts for s all of whose options that pass `keeps` lie in s: for the rising set those are the demanded options, for
 -- S~ the demanded items of `above`

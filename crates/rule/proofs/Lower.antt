@@ -1,5 +1,5 @@
 -- The largest set in excess demand that the matching answers, for 32 items and 64 bidders, is the rising set, and S~. THEORY.md 1.2. Assumes nothing.
-use Prim.Native.Nat.{ℕ, zero, suc, _+_, _^_, _≤_, _<_}
+use Prim.Native.Nat.{ℕ, zero, suc, _^_, _≤_, _<_}
 use mathlib.Core.Path.{_≡_, refl, sym, ap, _∙_, subst, fun-ext}
 use mathlib.Core.Bool.{Bool, true, false, _&&_}
 use mathlib.Core.List.{List, map}
@@ -10,13 +10,11 @@ use lib.ListN.{length, getD, length-map, List·getD-eq-default}
 use Rattle.sets.specs.Count.{_⇒_, allBelow, anyBelow, count}
 use Rattle.sets.specs.Bit.{isSet, has, setOf, size}
 use Rattle.sets.specs.Largest.{largest}
-use Rattle.sets.proofs.Counting.{count-mono, count-cong, count-first, and-left, and-right, and-both, not-both}
-use Rattle.sets.proofs.Members.{has-zero, agree, setOf-lt}
-use Rattle.sets.proofs.Bits.{lt-or-le}
-use Rattle.sets.proofs.Laws as L
+use Rattle.sets.proofs.Counting.{lt-or-le, count-mono, count-cong, and-left, and-right, and-both, not-both}
+use Rattle.sets.proofs.Members.{isSet-empty, isSet-above, size-count, has-zero, agree, setOf-lt}
 use Rattle.matching.specs.Demand.{part, meets, excess, largestExcess}
 use Rattle.matching.proofs.Largest.{part-use, part-make, meets-use, meets-make, wanting, excess-use, excess-make, is-largest}
-use Rattle.matching.proofs.Wider.{largest-wide}
+use Rattle.matching.proofs.Theorems.{largest-wide}
 use Rattle.rule.specs.Demand.{Demand, wants, nth}
 use Rattle.rule.specs.Excess.{nothingOutside, inExcess, excessDemand, positiveExcessDemand}
 use Rattle.rule.proofs.Union.{Part, likes, likes-use, likes-make, Crowd}
@@ -34,8 +32,8 @@ unfolding has
 item-bit s k = refl
 
 items-count : (m s : ℕ) → count (suc m) (has s) ≡ count m (isSet s)
-unfolding has
-items-count m s = let e : count (suc m) (has s) ≡ 0 + count m (isSet s) = count-first m (has s) in omega (arith, e)
+unfolding size
+items-count m s = sym (size-count m s)
 
 module _ (m : ℕ) (ws : List ℕ) (s : ℕ) where
   abbrev counts : ℕ → Bool
@@ -144,8 +142,8 @@ module _ (m : ℕ) (ds : List Demand) (f : Demand → ℕ) (w : List ℕ) (lm : 
   unwanted b i l = go (lt-or-le b (length ds))
     where
       go : (b < length ds) ⊎ (length ds ≤ b) → isSet (getD w b 0) i ≡ false
-      go (inl q) = ap (λ (x : ℕ). isSet x i) (here b q) ∙ L.has-above m (f (nth ds b)) i (small b q) l
-      go (inr q) = ap (λ (x : ℕ). isSet x i) (past b q) ∙ L.has-zero i
+      go (inl q) = ap (λ (x : ℕ). isSet x i) (here b q) ∙ isSet-above m (f (nth ds b)) i (small b q) l
+      go (inr q) = ap (λ (x : ℕ). isSet x i) (past b q) ∙ isSet-empty i
 
   pub profile-wide : largestExcess 32 64 w ≡ excessOf m (map f ds)
   profile-wide =

@@ -12,10 +12,8 @@ use lib.Pow.{pow-pos}
 use lib.ListN.{length, getD, length-map}
 use borrow.Author.Tests.{eqb-true, eq-eqb, ne-eqb}
 use Rattle.sets.specs.Bit.{isSet, has, setOf}
-use Rattle.sets.proofs.Counting.{count-mono, count-witness, and-left, and-right, and-both, not-both}
-use Rattle.sets.proofs.Bits.{lt-or-le}
-use Rattle.sets.proofs.Laws as L
-use Rattle.sets.proofs.Members.{same-set, setOf-lt, has-setOf, has-zero, empty-has, agree}
+use Rattle.sets.proofs.Counting.{lt-or-le, count-mono, count-witness, and-left, and-right, and-both, not-both}
+use Rattle.sets.proofs.Members.{isSet-empty, isSet-above, isSet-setOf, same-set, setOf-lt, has-zero, empty-has, agree}
 use Rattle.rule.specs.Demand.{Demand, wants, nth}
 use Rattle.rule.specs.Excess.{nothingOutside, nothingAboveOutside, crowded, inExcess, excessDemand, positiveExcessDemand}
 use Rattle.rule.proofs.Union.{Part, likes, likes-use, likes-make, Crowd}
@@ -121,7 +119,7 @@ active-by P d none items = go (d .null) refl
     go false e = subst P (sym (active-items d e)) items
 
 pub active-part : (d : Demand) (k : ℕ) → isSet (active d) k ≡ true → isSet (d .items) k ≡ true
-active-part d k = active-by (λ x. isSet x k ≡ true → isSet (d .items) k ≡ true) d (λ e. absurd (not-both (isSet 0 k) e (L.has-zero k))) (λ e. e)
+active-part d k = active-by (λ x. isSet x k ≡ true → isSet (d .items) k ≡ true) d (λ e. absurd (not-both (isSet 0 k) e (isSet-empty k))) (λ e. e)
 
 pub active-small : (m : ℕ) (d : Demand) → d .items < 2 ^ m → active d < 2 ^ m
 active-small m d l = active-by (λ x. x < 2 ^ m) d (pow-pos m) l
@@ -170,11 +168,11 @@ module _ (m above : ℕ) where
   inside-part d k e = go (lt-or-le k m)
     where
       go : (k < m) ⊎ (m ≤ k) → isSet (d .items) k ≡ true
-      go (inl l) = and-left (has (d .items) (suc k)) (has above (suc k)) (sym (has-setOf m (λ i. has (d .items) i && has above i) k l) ∙ e)
+      go (inl l) = and-left (has (d .items) (suc k)) (has above (suc k)) (sym (isSet-setOf m (λ i. has (d .items) i && has above i) k l) ∙ e)
       go (inr l) =
           absurd
           (not-both (isSet (inside m above d) k) e
-          (L.has-above m (inside m above d) k (setOf-lt m (λ i. has (d .items) i && has above i)) l))
+          (isSet-above m (inside m above d) k (setOf-lt m (λ i. has (d .items) i && has above i)) l))
 
   inside-there : (s : ℕ) → Part m (has s) (has above) → (t : ℕ → Bool) → Part m t (has s) → (d : Demand)
       → counted m (nothingAboveOutside m above s) t d ≡ true → counted m (nothingOutside m s) t (sole (inside m above d)) ≡ true
