@@ -4,3 +4,13 @@ pub mod Rounds
 pub mod Keeps
 pub mod Settles
 pub mod Always
+pub mod Lists
+pub mod Along
+pub mod Standing
+pub mod Follows
+pub mod Reporting
+pub mod Padded
+pub mod Ending
+pub mod Reading
+pub mod Counted
+pub mod Agreement

@@ -1,0 +1,260 @@
+-- Ending a round agrees with the machine. Assumes nothing.
+use Prim.Native.Nat.{ℕ, zero, suc, _+_, _-_, _^_, _≤_, _<_}
+use mathlib.Core.Path.{_≡_, refl, sym, ap, _∙_, subst}
+use mathlib.Core.Bool.{Bool, true, false, _&&_, not}
+use mathlib.Core.List.{List, [], _∷_}
+use native.Mathlib.Omega.{arith}
+use lib.Dec.{eqb}
+use lib.ListN.{length}
+use borrow.Author.Tests.{eqb-true, eq-eqb}
+use borrow.Author.Tests.{not-true as not-true-is}
+use Rattle.sets.specs.Count.{anyBelow}
+use Rattle.sets.specs.Bit.{has}
+use Rattle.sets.specs.Lists.{places}
+use Rattle.sets.proofs.Counting.{and-below, and-left, and-right, not-both, is-false, any-use}
+use Rattle.rule.specs.Sheet.{amount, Sheet}
+use Rattle.rule.specs.Demand.{Demand}
+use Rattle.rule.specs.Excess.{excessDemand, positive}
+use Rattle.rule.specs.Round.{rising, falling, Round, raised, lowered, closed, State, move, roundAt, round, path, raise, lower}
+use Rattle.rule.specs.Round.{Phase as RulePhase}
+use Rattle.rule.specs.Closing.{demandsAt, excessDemandAt, roundOf, phaseAfter, Closing}
+use Rattle.rule.specs.Refusal.{on, first}
+use Rattle.rule.proofs.Limits.{Limits}
+use Rattle.rule.proofs.Refusal.{passed}
+use Rattle.live.specs.Auction.{reportsOf, missing, aboveZero, risingSet, wellFormed}
+use Rattle.live.specs.Calls.{isClosed, isFalling, isRising, atTop, endNumber, ruled, roundBy, settled, gives, refused, endAnswer, endNext}
+use Rattle.live.specs.declared.Auction.{Auction}
+use Rattle.live.specs.declared.Phase.{Phase}
+use Rattle.live.specs.declared.Phase.the-variants.{Rising, Falling, Closed}
+use Rattle.live.proofs.Parts.{by-parts}
+use Rattle.agreement.specs.Calls.{ending, ended, Answered, call}
+use Rattle.agreement.specs.Machine.{Machine, none, at, phaseOf, phase, saidAll, isMissing, demandsStand, answers, machineEndNumber, next, turned, machineEnd, machine}
+use Rattle.agreement.specs.Agreement.{standsFor}
+use Rattle.agreement.proofs.Along.{raised-closed, lowered-closed, step-by, rising-at, raised-small, lowered-small, phase-is, falling-calm}
+use Rattle.agreement.proofs.Numbers.{first-same, first-nil}
+use Rattle.agreement.proofs.Padded.{raise-places, lower-places}
+use Rattle.agreement.proofs.Standing.{said-demands, none-missing, closed-stands, reports-is, missing-is, above-is, rising-is, top-is, price-past}
+use Rattle.agreement.proofs.Follows.{Good, Follows, no-nulls, no-reported, no-sets}
+
+-- ---- phases
+
+falls : (d : ℕ) → isFalling (phaseOf false d) ≡ true → phaseAfter d ≡ falling
+unfolding phaseOf
+falls zero e = absurd (not-both false e refl)
+falls (suc d) e = refl
+
+closed-not-falling : (b : Bool) (d : ℕ) → isFalling (phaseOf b d) ≡ true → b ≡ false
+unfolding phaseOf
+closed-not-falling false d e = refl
+closed-not-falling true d e = sym e
+
+no-downs : (d : ℕ) → rising ≡ phaseAfter d → Rising ≡ phaseOf false d
+unfolding phaseOf
+no-downs zero e = refl
+no-downs (suc d) e = absurd (let z : _≡_ {A = ℕ} 0 1 = cc in omega arith)
+
+falling-phase : (d : ℕ) → Falling ≡ phaseOf false (d + 1)
+unfolding phaseOf
+falling-phase d = let one : suc d ≡ d + 1 = omega arith in ap (phaseOf false) one
+
+ruled-is : (d : ℕ) → ruled (phaseOf false d) ≡ phaseAfter d
+unfolding phaseOf
+ruled-is zero = refl
+ruled-is (suc d) = refl
+
+and-false : (a b : Bool) → b ≡ false → a && b ≡ false
+and-false true b e = e
+and-false false b e = refl
+
+module _ (s : Sheet) (lim : Limits s) (c : Closing s) (t : Machine) (g : Good s t) (w : wellFormed (standsFor s t) ≡ true) where
+  abbrev m : ℕ
+  m = s .items
+
+  -- the path's state
+  abbrev now : State
+  now = path s (t .moves)
+
+  -- ---- the number
+
+  phase-now : standsFor s t .phase ≡ phase s t
+  phase-now = unfold standsFor in refl
+
+  items-is : standsFor s t .items ≡ m
+  items-is = unfold standsFor in refl
+
+  abbrev found : ℕ
+  found = excessDemand m (saidAll s t)
+
+  sixteen : isFalling (standsFor s t .phase) && not (eqb (risingSet (standsFor s t)) 0) ≡ isFalling (phase s t) && not (eqb found 0)
+  sixteen =
+      ap (λ (x : Phase). isFalling x && not (eqb (risingSet (standsFor s t)) 0)) phase-now ∙ ap (λ (x : ℕ). isFalling (phase s t) && not (eqb x 0)) (rising-is s t lim)
+
+  seventeen : isRising (standsFor s t .phase) && atTop (standsFor s t .items) (standsFor s t .prices) (risingSet (standsFor s t))
+      ≡ isRising (phase s t) && atTop m (at s t .prices) found
+  seventeen =
+      ap (λ (x : Phase). isRising x && atTop (standsFor s t .items) (standsFor s t .prices) (risingSet (standsFor s t))) phase-now
+      ∙ ap (λ (x : ℕ). isRising (phase s t) && atTop x (standsFor s t .prices) (risingSet (standsFor s t))) items-is
+      ∙ ap (λ (x : ℕ). isRising (phase s t) && atTop m (standsFor s t .prices) x) (rising-is s t lim)
+      ∙ ap (λ (x : Bool). isRising (phase s t) && x) (top-is s t lim found)
+
+  pub end-number : endNumber (standsFor s t) ≡ machineEndNumber s t
+  unfolding endNumber machineEndNumber
+  end-number =
+      passed 11 (not (wellFormed (standsFor s t))) _ (ap not w)
+      ∙ first-same 12 (isClosed (standsFor s t .phase)) (t .hasClosed) _ _ (closed-stands s t)
+      (λ e. first-same 14 (missing (standsFor s t)) (isMissing s t) _ _ (missing-is s t lim)
+      (λ e. first-same 16 (isFalling (standsFor s t .phase) && not (eqb (risingSet (standsFor s t)) 0)) (isFalling (phase s t) && not (eqb found 0)) _ _ sixteen
+      (λ e. first-same 17 (isRising (standsFor s t .phase) && atTop (standsFor s t .items) (standsFor s t .prices) (risingSet (standsFor s t)))
+      (isRising (phase s t) && atTop m (at s t .prices) found) _ _ seventeen (λ e. refl))))
+
+  calm-now : phaseAfter (now .downs) ≡ falling → excessDemandAt s (at s t .prices) ≡ 0
+  unfolding at
+  calm-now d = falling-calm s c (t .moves) (phase-is s (t .moves) ∙ d)
+
+  -- 16 and 17 never apply to the sheet's own demands
+  not-sixteen : demandsStand s t ≡ true → isFalling (phase s t) && not (eqb found 0) ≡ false
+  not-sixteen h = is-false (isFalling (phase s t) && not (eqb found 0)) by
+    where
+      by : isFalling (phase s t) && not (eqb found 0) ≡ true → ⊥
+      by e =
+          let f = and-left (isFalling (phase s t)) (not (eqb found 0)) e in
+          let f′ : isFalling (phaseOf (t .hasClosed) (now .downs)) ≡ true = unfold phase at in f in
+          let o = closed-not-falling (t .hasClosed) (now .downs) f′ in
+          let d = falls (now .downs) (subst (λ (b : Bool). isFalling (phaseOf b (now .downs)) ≡ true) o f′) in
+          let z : found ≡ 0 = ap (excessDemand m) (said-demands s t h) ∙ calm-now d in
+          not-both (not (eqb found 0)) (and-right (isFalling (phase s t)) (not (eqb found 0)) e) (ap not (eq-eqb found 0 z))
+
+  top-never : atTop m (now .prices) (excessDemandAt s (now .prices)) ≡ false
+  unfolding atTop
+  top-never = is-false (anyBelow m topped) (λ e. by (any-use m topped e))
+    where
+      topped : ℕ → Bool
+      topped k = has (excessDemandAt s (now .prices)) (suc k) && eqb (amount (now .prices) (suc k)) 4095
+
+      by : (k : ℕ) × (k < m) × (topped k ≡ true) → ⊥
+      by (k, l, e) =
+          let a = and-left (has (excessDemandAt s (now .prices)) (suc k)) (eqb (amount (now .prices) (suc k)) 4095) e in
+          let b = and-right (has (excessDemandAt s (now .prices)) (suc k)) (eqb (amount (now .prices) (suc k)) 4095) e in
+          omega (arith, c .raisable (t .moves) (suc k) a, eqb-true (amount (now .prices) (suc k)) 4095 b)
+
+  not-seventeen : demandsStand s t ≡ true → isRising (phase s t) && atTop m (at s t .prices) found ≡ false
+  not-seventeen h =
+      and-false (isRising (phase s t)) (atTop m (at s t .prices) found)
+      (ap (λ (ds : List Demand). atTop m (at s t .prices) (excessDemand m ds)) (said-demands s t h) ∙ (unfold at in top-never))
+
+  no-number : t .hasClosed ≡ false → demandsStand s t ≡ true → machineEndNumber s t ≡ 0
+  unfolding machineEndNumber
+  no-number o h =
+      passed 12 (t .hasClosed) _ o ∙ passed 14 (isMissing s t) _ (none-missing s t h) ∙ passed 16 (isFalling (phase s t) && not (eqb found 0)) _ (not-sixteen h)
+      ∙ passed 17 (isRising (phase s t) && atTop m (at s t .prices) found) [] (not-seventeen h) ∙ first-nil
+
+  pub not-refused : t .hasClosed ≡ false → demandsStand s t ≡ true → endNumber (standsFor s t) ≡ 0
+  not-refused o h = end-number ∙ no-number o h
+
+  -- ---- the round
+
+  phases : t .hasClosed ≡ false → ruled (standsFor s t .phase) ≡ now .phase
+  phases o =
+      let q : standsFor s t .phase ≡ phaseOf (t .hasClosed) (now .downs) = unfold standsFor phase at in refl in
+      ap ruled q ∙ ap (λ (b : Bool). ruled (phaseOf b (now .downs))) o ∙ ruled-is (now .downs) ∙ sym (phase-is s (t .moves))
+
+  round-is : t .hasClosed ≡ false → demandsStand s t ≡ true → roundBy (standsFor s t) ≡ roundOf s (t .moves)
+  unfolding roundBy roundAt at
+  round-is o h =
+      ap (λ (x : ℕ). round x (aboveZero (standsFor s t)) (reportsOf (standsFor s t)) (ruled (standsFor s t .phase))) items-is
+      ∙ ap (λ (x : ℕ). round m x (reportsOf (standsFor s t)) (ruled (standsFor s t .phase))) (above-is s t lim)
+      ∙ ap (λ (x : List Demand). round m (positive m (at s t .prices)) x (ruled (standsFor s t .phase))) (reports-is s t lim ∙ said-demands s t h)
+      ∙ ap (λ (x : RulePhase). round m (positive m (at s t .prices)) (demandsAt s (at s t .prices)) x) (phases o)
+
+  -- ---- the record after it
+
+  abbrev moved-on : Machine
+  moved-on = record { moves = suc (t .moves); hasClosed = t .hasClosed; standing = λ i. none }
+
+  abbrev closed-now : Machine
+  closed-now = record { moves = t .moves; hasClosed = true; standing = t .standing }
+
+  good-moved : t .hasClosed ≡ false → (roundOf s (t .moves) ≡ closed → ⊥) → Good s moved-on
+  good-moved o ne = record { not-before = and-below (λ k. roundOf s k ≡ closed → ⊥) ne (g .not-before); at-close = λ h. absurd (not-both (t .hasClosed) h o) }
+
+  good-closed : demandsStand s t ≡ true → roundOf s (t .moves) ≡ closed → Good s closed-now
+  good-closed h e = record { not-before = g .not-before; at-close = λ q. (unfold demandsStand at in h, e) }
+
+  raised-record : (x : ℕ) → t .hasClosed ≡ false → roundOf s (t .moves) ≡ raised x → settled (standsFor s t) (raised x) ≡ standsFor s moved-on
+  unfolding settled standsFor at phase
+  raised-record x o e =
+      by-parts (settled (standsFor s t) (raised x)) (standsFor s moved-on)
+      refl refl (raise-places m (now .prices) x (raised-small s (t .moves) x e) (price-past s t lim) ∙ ap (λ (q : State). places 32 (q .prices)) (sym after))
+      no-sets no-nulls no-reported phases′ (ap (λ (q : State). q .ups) (sym after)) (ap (λ (q : State). q .downs) (sym after))
+    where
+      after : path s (suc (t .moves)) ≡ record { phase = rising; prices = raise m (now .prices) x; ups = now .ups + 1; downs = now .downs }
+      after = step-by s (t .moves) (raised x) e ∙ (unfold move in refl)
+
+      phases′ : Rising ≡ phaseOf (t .hasClosed) (path s (suc (t .moves)) .downs)
+      phases′ =
+          no-downs (now .downs) (sym (rising-at s (t .moves) x e) ∙ phase-is s (t .moves)) ∙ ap (phaseOf false) (sym (ap (λ (q : State). q .downs) after))
+          ∙ ap (λ (b : Bool). phaseOf b (path s (suc (t .moves)) .downs)) (sym o)
+
+  lowered-record : (x : ℕ) → t .hasClosed ≡ false → roundOf s (t .moves) ≡ lowered x → settled (standsFor s t) (lowered x) ≡ standsFor s moved-on
+  unfolding settled standsFor at phase
+  lowered-record x o e =
+      by-parts (settled (standsFor s t) (lowered x)) (standsFor s moved-on)
+      refl refl (lower-places m (now .prices) x (lowered-small s (t .moves) x e) (price-past s t lim) ∙ ap (λ (q : State). places 32 (q .prices)) (sym after))
+      no-sets no-nulls no-reported phases′ (ap (λ (q : State). q .ups) (sym after)) (ap (λ (q : State). q .downs) (sym after))
+    where
+      after : path s (suc (t .moves)) ≡ record { phase = falling; prices = lower m (now .prices) x; ups = now .ups; downs = now .downs + 1 }
+      after = step-by s (t .moves) (lowered x) e ∙ (unfold move in refl)
+
+      phases′ : Falling ≡ phaseOf (t .hasClosed) (path s (suc (t .moves)) .downs)
+      phases′ =
+          falling-phase (now .downs) ∙ ap (phaseOf false) (sym (ap (λ (q : State). q .downs) after))
+          ∙ ap (λ (b : Bool). phaseOf b (path s (suc (t .moves)) .downs)) (sym o)
+
+  closed-record : settled (standsFor s t) closed ≡ standsFor s closed-now
+  unfolding settled standsFor at phase phaseOf
+  closed-record = refl
+
+  settles : (r : Round) → t .hasClosed ≡ false → demandsStand s t ≡ true → roundOf s (t .moves) ≡ r → (settled (standsFor s t) r ≡ standsFor s (next t r)) × Good s (next t r)
+  unfolding next
+  settles (raised x) o h e = (raised-record x o e, good-moved o (λ q. raised-closed x (sym e ∙ q)))
+  settles (lowered x) o h e = (lowered-record x o e, good-moved o (λ q. lowered-closed x (sym e ∙ q)))
+  settles closed o h e = (closed-record, good-closed h e)
+
+  -- ---- the call
+
+  answer-by : (x : ℕ) → endNumber (standsFor s t) ≡ x → endAnswer (standsFor s t) ≡ elim x [ zero ↦ gives (roundBy (standsFor s t)) | suc j ↦ refused (suc j) ]
+  unfolding endAnswer
+  answer-by x e = ap (λ (x : ℕ). elim x [ zero ↦ gives (roundBy (standsFor s t)) | suc j ↦ refused (suc j) ]) e
+
+  next-by : (x : ℕ) → endNumber (standsFor s t) ≡ x → endNext (standsFor s t) ≡ elim x [ zero ↦ settled (standsFor s t) (roundBy (standsFor s t)) | suc j ↦ standsFor s t ]
+  unfolding endNext
+  next-by x e = ap (λ (x : ℕ). elim x [ zero ↦ settled (standsFor s t) (roundBy (standsFor s t)) | suc j ↦ standsFor s t ]) e
+
+  pub next-round : t .hasClosed ≡ false → demandsStand s t ≡ true → endAnswer (standsFor s t) ≡ gives (roundOf s (t .moves))
+  next-round o h = answer-by 0 (not-refused o h) ∙ ap gives (round-is o h)
+
+  abbrev answered : Answered
+  answered = record { answer = ended (endAnswer (standsFor s t)); next = endNext (standsFor s t) }
+
+  moves : t .hasClosed ≡ false → demandsStand s t ≡ true → Follows s answered (answers (ended (gives (roundOf s (t .moves)))) (next t (roundOf s (t .moves))))
+  unfolding Follows
+  moves o h =
+      let q = settles (roundOf s (t .moves)) o h refl in
+      (ap ended (next-round o h), next-by 0 (not-refused o h) ∙ ap (settled (standsFor s t)) (round-is o h) ∙ q .0, q .1)
+
+  turned-down : (x : ℕ) → endNumber (standsFor s t) ≡ x → Follows s answered (turned x t)
+  unfolding turned Follows
+  turned-down zero e = tt
+  turned-down (suc j) e = (ap ended (answer-by (suc j) e), next-by (suc j) e, g)
+
+  pub end-follows : Follows s (call (standsFor s t) ending) (machine s t ending)
+  unfolding call machine machineEnd
+  end-follows = go (not (t .hasClosed) && demandsStand s t) refl
+    where
+      go : (b : Bool) → not (t .hasClosed) && demandsStand s t ≡ b
+          → Follows s answered (elim b [
+            | true ↦ answers (ended (gives (roundOf s (t .moves)))) (next t (roundOf s (t .moves)))
+            | false ↦ turned (machineEndNumber s t) t
+          ])
+      go true e = moves (not-true-is (t .hasClosed) (and-left (not (t .hasClosed)) (demandsStand s t) e)) (and-right (not (t .hasClosed)) (demandsStand s t) e)
+      go false e = turned-down (machineEndNumber s t) end-number
