@@ -21,6 +21,7 @@ use Rattle.rule.specs.Closing.{demandsAt, excessDemandAt, roundOf, phaseAfter, 
 use Rattle.rule.specs.Refusal.{on, first}
 use Rattle.rule.proofs.Limits.{Limits}
 use Rattle.rule.proofs.Refusal.{passed}
+use Rattle.round.proofs.Moving.{raise-places, lower-places}
 use Rattle.live.specs.Auction.{reportsOf, missing, aboveZero, risingSet, wellFormed}
 use Rattle.live.specs.Calls.{isClosed, isFalling, isRising, atTop, endNumber, ruled, roundBy, settled, gives, refused, endAnswer, endNext}
 use Rattle.live.specs.declared.Auction.{Auction}
@@ -30,10 +31,9 @@ use Rattle.live.proofs.Parts.{by-parts}
 use Rattle.agreement.specs.Calls.{ending, ended, Answered, call}
 use Rattle.agreement.specs.Machine.{Machine, none, at, phaseOf, phase, saidAll, isMissing, demandsStand, answers, machineEndNumber, next, turned, machineEnd, machine}
 use Rattle.agreement.specs.Agreement.{standsFor}
-use Rattle.agreement.proofs.Along.{raised-closed, lowered-closed, step-by, rising-at, raised-small, lowered-small, phase-is, falling-calm}
+use Rattle.agreement.proofs.Along.{raised-closed, lowered-closed, step-by, rising-at, raised-small, lowered-small, phase-is, long-along, falling-calm}
 use Rattle.agreement.proofs.Numbers.{first-same, first-nil}
-use Rattle.agreement.proofs.Padded.{raise-places, lower-places}
-use Rattle.agreement.proofs.Standing.{said-demands, none-missing, closed-stands, reports-is, missing-is, above-is, rising-is, top-is, price-past}
+use Rattle.agreement.proofs.Standing.{said-demands, none-missing, closed-stands, reports-is, missing-is, above-is, rising-is, top-is}
 use Rattle.agreement.proofs.Follows.{Good, Follows, no-nulls, no-reported, no-sets}
 
 -- ---- phases
@@ -184,7 +184,7 @@ module _ (s : Sheet) (lim : Limits s) (c : Closing s) (t : Machine) (g : Good s 
   unfolding settled standsFor at phase
   raised-record x o e =
       by-parts (settled (standsFor s t) (raised x)) (standsFor s moved-on)
-      refl refl (raise-places m (now .prices) x (raised-small s (t .moves) x e) (price-past s t lim) ∙ ap (λ (q : State). places 32 (q .prices)) (sym after))
+      refl refl (raise-places m (lim .max-items) (now .prices) (long-along s (lim .start .long) (t .moves)) x (raised-small s (t .moves) x e) ∙ ap (λ (q : State). places 32 (q .prices)) (sym after))
       no-sets no-nulls no-reported phases′ (ap (λ (q : State). q .ups) (sym after)) (ap (λ (q : State). q .downs) (sym after))
     where
       after : path s (suc (t .moves)) ≡ record { phase = rising; prices = raise m (now .prices) x; ups = now .ups + 1; downs = now .downs }
@@ -199,7 +199,7 @@ module _ (s : Sheet) (lim : Limits s) (c : Closing s) (t : Machine) (g : Good s 
   unfolding settled standsFor at phase
   lowered-record x o e =
       by-parts (settled (standsFor s t) (lowered x)) (standsFor s moved-on)
-      refl refl (lower-places m (now .prices) x (lowered-small s (t .moves) x e) (price-past s t lim) ∙ ap (λ (q : State). places 32 (q .prices)) (sym after))
+      refl refl (lower-places m (lim .max-items) (now .prices) (long-along s (lim .start .long) (t .moves)) x (lowered-small s (t .moves) x e) ∙ ap (λ (q : State). places 32 (q .prices)) (sym after))
       no-sets no-nulls no-reported phases′ (ap (λ (q : State). q .ups) (sym after)) (ap (λ (q : State). q .downs) (sym after))
     where
       after : path s (suc (t .moves)) ≡ record { phase = falling; prices = lower m (now .prices) x; ups = now .ups; downs = now .downs + 1 }

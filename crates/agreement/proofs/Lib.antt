@@ -9,7 +9,6 @@ pub mod Along
 pub mod Standing
 pub mod Follows
 pub mod Reporting
-pub mod Padded
 pub mod Ending
 pub mod Reading
 pub mod Counted

@@ -10,8 +10,7 @@ use borrow.Author.Tests.{eqb-true}
 use Rattle.sets.specs.Bit.{has, setOf}
 use Rattle.sets.specs.Lists.{tabulate}
 use Rattle.sets.proofs.Counting.{not-both, or-right}
-use Rattle.sets.proofs.Members.{has-setOf}
-use Rattle.sets.proofs.Words.{setOf-cong}
+use Rattle.sets.proofs.Members.{has-setOf, setOf-cong}
 use Rattle.rule.specs.Sheet.{Sheet}
 use Rattle.rule.specs.Demand.{Demand}
 use Rattle.rule.specs.Refusal.{Refusal, on, first, badBidder}

@@ -13,21 +13,18 @@ use Rattle.sets.specs.Bit.{has, setOf}
 use Rattle.sets.specs.Lists.{tabulate, places}
 use Rattle.sets.proofs.Counting.{all-use, any-use, any-cong, and-left, and-right, is-false, not-both}
 use Rattle.sets.proofs.Lists.{tabulate-at, places-at}
-use Rattle.sets.proofs.Members.{has-setOf}
-use Rattle.sets.proofs.Words.{setOf-cong}
+use Rattle.sets.proofs.Members.{has-setOf, setOf-cong}
 use Rattle.rule.specs.Sheet.{amount, Sheet}
 use Rattle.rule.specs.Demand.{Demand, nth}
 use Rattle.rule.specs.Excess.{excessDemand, positive}
-use Rattle.rule.specs.Round.{path}
 use Rattle.rule.specs.Closing.{demandsAt}
 use Rattle.rule.proofs.AtPrices.{demands-length}
-use Rattle.rule.proofs.Limits.{Limits, amount-beyond}
-use Rattle.live.specs.Reports.{reports}
+use Rattle.rule.proofs.Limits.{Limits}
+use Rattle.round.specs.Reports.{reports}
 use Rattle.live.specs.Auction.{place, hasReported, missing, reportsOf, aboveZero, risingSet}
 use Rattle.live.specs.Calls.{isClosed, atTop}
 use Rattle.agreement.specs.Machine.{Standing, none, stands, Machine, at, phaseOf, phase, doesStand, said, saidAll, isMissing, sameBool, sameDemand, standsAs, demandsStand}
 use Rattle.agreement.specs.Agreement.{standsFor}
-use Rattle.agreement.proofs.Along.{long-along}
 use Rattle.agreement.proofs.Lists.{tabulate-same, tabulate-nth}
 
 abbrev nothing : Demand
@@ -142,7 +139,3 @@ module _ (s : Sheet) (t : Machine) where
         let max = lim .max-items in
         any-cong (s .items) (λ k. has x (suc k) && eqb (amount (standsFor s t .prices) (suc k)) 4095) (λ k. has x (suc k) && eqb (amount (at s t .prices) (suc k)) 4095)
         (λ k l. ap (λ (p : ℕ). has x (suc k) && eqb p 4095) (price-is k (omega (arith, max, l))))
-
-    -- prices past the items are 0
-    pub price-past : (k : ℕ) → s .items ≤ k → amount (path s (t .moves) .prices) (suc k) ≡ 0
-    price-past k l = amount-beyond (s .items) (path s (t .moves) .prices) (long-along s (lim .start .long) (t .moves)) (suc k) (omega arith)

@@ -10,7 +10,7 @@ use Rattle.rule.specs.Sheet.{amount, priceSum}
 use Rattle.rule.specs.Demand.{Demand}
 use Rattle.rule.specs.Excess.{excessDemand, excessSupply, positive}
 use Rattle.rule.specs.Refusal.{badItems, badBidders, anyOver}
-use Rattle.live.specs.Reports.{reports}
+use Rattle.round.specs.Reports.{reports}
 use Rattle.live.specs.declared.Auction.{Auction}
 use Rattle.live.specs.declared.Phase.{Phase}
 use Rattle.live.specs.declared.Phase.the-variants.{Rising, Falling, Closed}

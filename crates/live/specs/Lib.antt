@@ -1,4 +1,3 @@
-pub mod Reports
 pub mod Auction
 pub mod Calls
 pub mod Reading
