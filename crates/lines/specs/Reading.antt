@@ -1,10 +1,10 @@
 -- Reading digits, numbers and lines from bytes: document 01, "Sheets". Assumes nothing: these are definitions.
 use Prim.Native.Nat.{ℕ, zero, suc, _+_, _*_, _-_}
-use mathlib.Core.Bool.{_&&_, cond}
+use mathlib.Core.Bool.{Bool, _&&_, cond}
 use mathlib.Core.List.{List, [], _∷_}
 use mathlib.Core.Option.{Option, none, some}
 use lib.Dec.{leb, eqb}
-use lib.ListN.{getElem?}
+use lib.ListN.{getD, getElem?}
 
 infixl 20 _>>=_
 -- what one reading gives goes to the next; none where one of them gives none
@@ -36,12 +36,15 @@ numbersAt (suc k) n bytes at = do
   xs ← numbersAt k n bytes (at + n)
   some (x ∷ xs)
 
+-- byte 0a stands at a place: past the last byte, 0 stands for none
+unfoldable pub endsAt : List ℕ → ℕ → Bool
+endsAt bytes at = eqb (getD bytes at 0) 10
+
 -- the line that starts at a place: k numbers of n digits each, then byte 0a
 unfoldable pub lineAt : (k n : ℕ) → List ℕ → ℕ → Option (List ℕ)
 lineAt k n bytes at = do
   xs ← numbersAt k n bytes at
-  b ← getElem? bytes (at + n * k)
-  cond (eqb b 10) (some xs) none
+  cond (endsAt bytes (at + n * k)) (some xs) none
 
 -- what the three lines of a closing sheet say: rounds raised and rounds lowered, the prices, the options
 pub record Said : Type 0 where
