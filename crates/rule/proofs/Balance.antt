@@ -1,5 +1,5 @@
 -- Where both sets are empty, the first assignment fits, so the prices balance; they are the least prices that do, the only ones where both sets are empty, and
--- the assignment has the highest total. THEORY.md 2.8 to 2.10. Assumes nothing.
+-- the assignment has the highest total. THEORY.md 2.7 to 2.10. Assumes nothing.
 use Prim.Native.Nat.{ℕ, _+_, suc, _≤_, _<_}
 use mathlib.Core.Path.{_≡_, refl, sym, _∙_, subst}
 use mathlib.Core.Bool.{Bool, true, false, _&&_}
