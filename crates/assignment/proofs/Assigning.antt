@@ -12,7 +12,7 @@ use lib.ListN.{length, getD, set, take, replicate, length-set, length-replicate,
 use lib.Seq.{append-snoc, take-suc-set, getD-take, getD-set-other}
 use Rattle.sets.specs.Bit.{has, setOf, lowest}
 use Rattle.sets.specs.Lists.{places}
-use Rattle.sets.proofs.Bits.{lt-or-le}
+use Rattle.sets.proofs.Counting.{lt-or-le}
 use Rattle.sets.proofs.Lists.{is-tabulate}
 use Rattle.rule.specs.Assignment.{fits, someList, choose, assignment}
 use Rattle.rule.proofs.Order.{Listed, listed, some-make, choose-passes}

@@ -10,7 +10,7 @@ use lib.Dec.{eqb}
 use lib.ListN.{length, getD}
 use Rattle.sets.specs.Bit.{has, setOf, lowest}
 use Rattle.sets.proofs.Counting.{not-both, is-false}
-use Rattle.sets.proofs.Members.{Lowest, item, is-null, lowest-is, lowest-only}
+use Rattle.sets.proofs.Lowest.{item, is-null, lowest-unique}
 use Rattle.rule.specs.Demand.{wants, nth}
 use Rattle.rule.specs.Assignment.{option, fits}
 use Rattle.rule.proofs.Order.{Listed}
@@ -111,13 +111,9 @@ module _ (n : ℕ) (sets : List ℕ) (nulls above : ℕ) where
 
 -- ---- a search from item 1 on finds the lowest
 
-pub lowest-found : (g : ℕ → Bool) (i : ℕ) → 0 < i → i ≤ 32 → g i ≡ true → ((j : ℕ) → j < i → 0 < j → g j ≡ false) → i ≡ lowest 32 g
-lowest-found g zero pos le on low = absurd (not-suc-le-zero pos)
-lowest-found g (suc k) pos le on low = sym (lowest-only 32 g (lowest 32 g) (lowest-is 32 g) k le on (λ j l. low (suc j) (omega arith) (omega arith)))
+pub first-found : (g : ℕ → Bool) (i : ℕ) → 0 < i → i ≤ 32 → g i ≡ true → ((j : ℕ) → j < i → 0 < j → g j ≡ false) → i ≡ lowest 32 g
+first-found g zero pos le on low = absurd (not-suc-le-zero pos)
+first-found g (suc k) pos le on low = lowest-unique 32 g (suc k) (item k le on (λ j l. low (suc j) (omega arith) (omega arith)))
 
-pub lowest-none : (g : ℕ → Bool) → ((j : ℕ) → j < 33 → 0 < j → g j ≡ false) → 0 ≡ lowest 32 g
-lowest-none g off = go (lowest 32 g) (lowest-is 32 g)
-  where
-    go : (r : ℕ) → Lowest 32 g r → 0 ≡ r
-    go r (is-null h) = refl
-    go r (item k l on h) = absurd (not-both (g (suc k)) on (off (suc k) (omega arith) (omega arith)))
+pub none-found : (g : ℕ → Bool) → ((j : ℕ) → j < 33 → 0 < j → g j ≡ false) → 0 ≡ lowest 32 g
+none-found g off = lowest-unique 32 g 0 (is-null (λ j l. off (suc j) (omega arith) (omega arith)))

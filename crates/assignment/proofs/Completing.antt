@@ -11,7 +11,7 @@ use Rattle.sets.specs.Bit.{has, setOf}
 use Rattle.sets.specs.Lists.{tabulate}
 use Rattle.sets.proofs.Counting.{and-left, and-right, and-both, not-both, not-is, is-false}
 use Rattle.sets.proofs.Lists.{tabulate-at}
-use Rattle.sets.proofs.Members.{has-setOf, empty-has}
+use Rattle.sets.proofs.Members.{isSet-setOf, empty-has}
 use Rattle.matching.specs.Demand.{Covered}
 use Rattle.rule.specs.Demand.{Demand, wants, nth}
 use Rattle.rule.specs.Assignment.{option}
@@ -45,7 +45,7 @@ left-at sets waiting taken c k lc lk =
     ∙ go (has waiting (suc c))
   where
     go : (w : Bool) → has (cond w (setOf 32 (λ k. has (getD sets c 0) k && not (has taken k))) 0) (suc k) ≡ w && (has (getD sets c 0) (suc k) && not (has taken (suc k)))
-    go true = has-setOf 32 (λ k. has (getD sets c 0) k && not (has taken k)) k lk
+    go true = unfold has in isSet-setOf 32 (λ k. has (getD sets c 0) k && not (has taken k)) k lk
     go false = empty-has (suc k)
 
 module _ (n : ℕ) (sets : List ℕ) (nulls above : ℕ) (ys : List ℕ) (waiting taken : ℕ) (t : Begun n sets nulls ys waiting taken) where
@@ -80,12 +80,12 @@ module _ (n : ℕ) (sets : List ℕ) (nulls above : ℕ) (ys : List ℕ) (waitin
   need-of = setOf 32 (λ k. has above k && not (has taken k))
 
   must-at : (c : ℕ) → c < 64 → has must-of (suc c) ≡ has waiting (suc c) && not (has nulls (suc c))
-  unfolding must-of
-  must-at c l = has-setOf 64 (λ k. has waiting k && not (has nulls k)) c l
+  unfolding must-of has
+  must-at c l = isSet-setOf 64 (λ k. has waiting k && not (has nulls k)) c l
 
   need-at : (k : ℕ) → k < 32 → has need-of (suc k) ≡ has above (suc k) && not (has taken (suc k))
-  unfolding need-of
-  need-at k l = has-setOf 32 (λ k. has above k && not (has taken k)) k l
+  unfolding need-of has
+  need-at k l = isSet-setOf 32 (λ k. has above k && not (has taken k)) k l
 
   asked : Asked 32 (length (reports n sets nulls)) (λ b. wants (nth (reports n sets nulls) b)) (has above) ys (leftTo sets waiting taken) must-of need-of
   unfolding has

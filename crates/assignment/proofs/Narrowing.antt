@@ -7,9 +7,8 @@ use mathlib.Core.Logic.{_⊎_, inl, inr}
 use native.Mathlib.Omega.{arith}
 use lib.ListN.{length, getD}
 use Rattle.sets.specs.Bit.{has}
-use Rattle.sets.proofs.Bits.{lt-or-le}
-use Rattle.sets.proofs.Counting.{not-both}
-use Rattle.sets.proofs.Members.{has-above}
+use Rattle.sets.proofs.Counting.{lt-or-le, not-both}
+use Rattle.sets.proofs.Members.{has-past}
 use Rattle.rule.specs.Demand.{wants, nth}
 use Rattle.rule.specs.Assignment.{option, fits, someList, choose, assignment}
 use Rattle.rule.proofs.Order.{Listed, some-make, choose-passes, choose-first, not-after-same}
@@ -52,7 +51,7 @@ module _ (m n : ℕ) (sets : List ℕ) (r : Reported m n sets) (nulls above : �
 
       go : (k < m) ⊎ (m ≤ k) → suc k < suc m
       go (inl q) = omega arith
-      go (inr q) = absurd (not-both (has (getD sets b 0) (suc k)) (sym (wants-item n sets nulls b k lb) ∙ e) (has-above m (getD sets b 0) k (r .small b lb) q))
+      go (inr q) = absurd (not-both (has (getD sets b 0) (suc k)) (sym (wants-item n sets nulls b k lb) ∙ e) (has-past m (getD sets b 0) (suc k) (r .small b lb) (omega arith)))
 
   priced : (i : ℕ) → has above i ≡ true → i < suc m
   priced zero e = omega arith
@@ -60,7 +59,7 @@ module _ (m n : ℕ) (sets : List ℕ) (r : Reported m n sets) (nulls above : �
     where
       go : (k < m) ⊎ (m ≤ k) → suc k < suc m
       go (inl q) = omega arith
-      go (inr q) = absurd (not-both (has above (suc k)) e (has-above m above k la q))
+      go (inr q) = absurd (not-both (has above (suc k)) e (has-past m above (suc k) la (omega arith)))
 
   -- so what fits among 32 items fits among m, and back
   narrower : (xs : List ℕ) → fits 32 above (reports n sets nulls) xs ≡ true → fits m above (reports n sets nulls) xs ≡ true

@@ -7,12 +7,11 @@ use mathlib.Core.Logic.{_⊎_, inl, inr}
 use native.Mathlib.Omega.{arith}
 use lib.ListN.{length, getD, replicate, length-replicate, getD-replicate, List·getD-eq-default}
 use borrow.Author.Tests.{le-leb, lt-leb}
-use Rattle.sets.specs.Bit.{any, lowest}
+use Rattle.sets.specs.Bit.{any}
 use Rattle.sets.specs.Lists.{places}
-use Rattle.sets.proofs.Bits.{lt-or-le}
-use Rattle.sets.proofs.Counting.{any-make, not-both, is-false}
+use Rattle.sets.proofs.Counting.{lt-or-le, any-make, not-both, is-false}
 use Rattle.sets.proofs.Lists.{is-tabulate}
-use Rattle.sets.proofs.Members.{Lowest, item, is-null, lowest-is}
+use Rattle.sets.proofs.Lowest.{is-null, lowest-unique}
 use Rattle.rule.specs.Assignment.{fits, someList, choose, assignment}
 use Rattle.round.specs.Reports.{reports}
 use Rattle.round.proofs.Reporting.{reports-length}
@@ -22,17 +21,13 @@ use Rattle.assignment.specs.Choice.{completed}
 pub choose-none : (m n : ℕ) (f : List ℕ → Bool) → someList m n f ≡ false → choose m n f ≡ replicate n 0
 unfolding choose someList any
 choose-none m zero f e = refl
-choose-none m (suc n) f e = ap (λ (i : ℕ). i ∷ choose m n (λ xs. f (i ∷ xs))) (null (lowest m g) (lowest-is m g)) ∙ ap (λ (xs : List ℕ). 0 ∷ xs) (choose-none m n (λ xs. f (0 ∷ xs)) (off 0 (omega arith)))
+choose-none m (suc n) f e = ap (λ (i : ℕ). i ∷ choose m n (λ xs. f (i ∷ xs))) (sym (lowest-unique m g 0 (is-null (λ k l. off (suc k) (omega arith))))) ∙ ap (λ (xs : List ℕ). 0 ∷ xs) (choose-none m n (λ xs. f (0 ∷ xs)) (off 0 (omega arith)))
   where
     g : ℕ → Bool
     g i = someList m n (λ xs. f (i ∷ xs))
 
     off : (i : ℕ) → i < suc m → someList m n (λ xs. f (i ∷ xs)) ≡ false
     off i l = is-false (someList m n (λ xs. f (i ∷ xs))) (λ h. not-both (any m (λ i. someList m n (λ xs. f (i ∷ xs)))) (unfold any in any-make (suc m) (λ i. someList m n (λ xs. f (i ∷ xs))) i l h) (unfold any in e))
-
-    null : (r : ℕ) → Lowest m g r → r ≡ 0
-    null r (is-null h) = refl
-    null r (item k l on h) = absurd (not-both (g (suc k)) on (off (suc k) (omega arith)))
 
 zero-at : (n k : ℕ) → _≡_ {A = ℕ} (getD (replicate n 0) k 0) 0
 zero-at n k = go (lt-or-le k n)

@@ -1,7 +1,7 @@
 -- Who waits, and what is taken: what the two sets say, and how they change with one bidder more. Assumes nothing.
 use Prim.Native.Nat.{ℕ, suc, _+_, _≤_, _<_}
 use mathlib.Core.Path.{_≡_, refl, sym, ap, _∙_}
-use mathlib.Core.Bool.{Bool, true, false, _&&_, _||_, not, true≢false}
+use mathlib.Core.Bool.{Bool, true, false, _&&_, _||_, not}
 use mathlib.Core.List.{List, [], _∷_, _++_}
 use mathlib.Core.Logic.{_⊎_, inl, inr}
 use native.Mathlib.Omega.{arith}
@@ -11,10 +11,8 @@ use lib.Seq.{getD-append-add}
 use borrow.Author.Tests.{ltb-true, leb-true, eqb-true, eqb-false, lt-ltb, le-leb, eq-eqb, ne-eqb, lt-leb}
 use Rattle.sets.specs.Bit.{has, setOf}
 use Rattle.sets.specs.Count.{anyBelow}
-use Rattle.sets.proofs.Bits.{lt-or-le}
-use Rattle.sets.proofs.Counting.{and-left, and-right, and-both, or-cases, or-right, not-is, any-use, any-make}
-use Rattle.sets.proofs.Members.{has-setOf}
-use Rattle.sets.proofs.Words.{setOf-cong}
+use Rattle.sets.proofs.Counting.{lt-or-le, and-left, and-right, and-both, or-cases, or-left, or-right, not-is, any-use, any-make}
+use Rattle.sets.proofs.Members.{isSet-setOf, setOf-cong}
 use Rattle.rule.specs.Assignment.{option}
 use Rattle.round.proofs.Narrowing.{setOf-narrow}
 use Rattle.assignment.specs.Choice.{waitingAfter, takenBy}
@@ -28,8 +26,8 @@ same-test false false there back = refl
 -- ---- who waits
 
 pub waiting-at : (b n c : ℕ) → c < 64 → has (waitingAfter b n) (suc c) ≡ ltb b (suc c) && leb (suc c) n
-unfolding waitingAfter
-waiting-at b n c l = has-setOf 64 (λ j. ltb b j && leb j n) c l
+unfolding waitingAfter has
+waiting-at b n c l = isSet-setOf 64 (λ j. ltb b j && leb j n) c l
 
 pub waiting-use : (b n c : ℕ) → c < 64 → has (waitingAfter b n) (suc c) ≡ true → (b ≤ c) × (c < n)
 waiting-use b n c l e =
@@ -77,15 +75,15 @@ waiting-all n l =
 -- ---- what is taken
 
 pub taken-use : (ys : List ℕ) (k : ℕ) → k < 32 → has (takenBy ys) (suc k) ≡ true → (a : ℕ) × (a < length ys) × (option ys a ≡ suc k)
-unfolding takenBy
+unfolding takenBy has
 taken-use ys k l e =
-    let w = any-use (length ys) (λ a. eqb (option ys a) (suc k)) (sym (has-setOf 32 (λ i. anyBelow (length ys) (λ a. eqb (option ys a) i)) k l) ∙ e) in
+    let w = any-use (length ys) (λ a. eqb (option ys a) (suc k)) (sym (isSet-setOf 32 (λ i. anyBelow (length ys) (λ a. eqb (option ys a) i)) k l) ∙ e) in
     (w .0, w .1, eqb-true (option ys (w .0)) (suc k) (w .2))
 
 pub taken-make : (ys : List ℕ) (k : ℕ) → k < 32 → (a : ℕ) → a < length ys → option ys a ≡ suc k → has (takenBy ys) (suc k) ≡ true
-unfolding takenBy
+unfolding takenBy has
 taken-make ys k l a la e =
-    has-setOf 32 (λ i. anyBelow (length ys) (λ a. eqb (option ys a) i)) k l ∙ any-make (length ys) (λ a. eqb (option ys a) (suc k)) a la (eq-eqb (option ys a) (suc k) e)
+    isSet-setOf 32 (λ i. anyBelow (length ys) (λ a. eqb (option ys a) i)) k l ∙ any-make (length ys) (λ a. eqb (option ys a) (suc k)) a la (eq-eqb (option ys a) (suc k) e)
 
 pub taken-none : 0 ≡ takenBy []
 unfolding takenBy anyBelow setOf
@@ -140,10 +138,6 @@ taken-next ys x =
         is : option (ys ++ (x ∷ [])) (w .0) ≡ suc k
         is = eqb-true (option (ys ++ (x ∷ [])) (w .0)) (suc k) (w .2)
 
-        left : (a b : Bool) → a ≡ true → a || b ≡ true
-        left true b p = refl
-        left false b p = absurd (true≢false (sym p))
-
         go : Snoc ys x (w .0) → has (takenBy ys) (suc k) || eqb (suc k) x ≡ true
-        go (inl v) = left (has (takenBy ys) (suc k)) (eqb (suc k) x) (taken-make ys k l (w .0) (v .0) (sym (v .1) ∙ is))
+        go (inl v) = or-left (has (takenBy ys) (suc k)) (eqb (suc k) x) (taken-make ys k l (w .0) (v .0) (sym (v .1) ∙ is))
         go (inr v) = or-right (has (takenBy ys) (suc k)) (eqb (suc k) x) (eq-eqb (suc k) x (sym is ∙ v .1))

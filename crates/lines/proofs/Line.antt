@@ -32,6 +32,7 @@ ended bytes at e = go (decLt at (length bytes))
   where
     ten : getD bytes at 0 ≡ 10
     ten = eqb-true (getD bytes at 0) 10 e
+
     go : Dec (at < length bytes) → Stands bytes at (10 ∷ [])
     go (yes l) = one bytes at 10 l ten
     go (no l) =
@@ -50,7 +51,7 @@ module _ (bytes : List ℕ) (k c at : ℕ) where
       let xs : List ℕ = tabulate k g 0 in
       let f = front bytes at (joined k (λ i. hex c (g i))) newline s in
       let b : Stands bytes (at + c * k) newline =
-          subst (λ (j : ℕ). Stands bytes (at + j) newline) (digits k c g) (back bytes at (joined k (λ i. hex c (g i))) newline s) in
+      subst (λ (j : ℕ). Stands bytes (at + j) newline) (digits k c g) (back bytes at (joined k (λ i. hex c (g i))) newline s) in
       gives (numbersAt k c bytes at) (λ ys. cond (endsAt bytes (at + c * k)) (some ys) none) xs (numbers-at bytes k c at g h f)
       ∙ ap (λ (t : Bool). cond t (some xs) none) (ends bytes (at + c * k) b)
 
@@ -60,9 +61,8 @@ module _ (bytes : List ℕ) (k c at : ℕ) where
   line-read xs l e =
       let g = gave (numbersAt k c bytes at) (λ ys. cond (endsAt bytes (at + c * k)) (some ys) none) xs e in
       let w = kept (endsAt bytes (at + c * k)) (g .0) xs (g .2) in
-      let r : Read bytes at k c xs = subst (λ (zs : List ℕ). Read bytes at k c zs) (w .1) (numbers-read bytes k c at (g .0) l (g .1)) in
-      (
+      let r : Read bytes at k c xs = subst (λ (zs : List ℕ). Read bytes at k c zs) (w .1) (numbers-read bytes k c at (g .0) l (g .1)) in (
         r,
         both bytes at (joined k (λ i. hex c (getD xs i 0))) newline (r .stands)
-          (subst (λ (j : ℕ). Stands bytes (at + j) newline) (sym (digits k c (λ i. getD xs i 0))) (ended bytes (at + c * k) (w .0))),
+            (subst (λ (j : ℕ). Stands bytes (at + j) newline) (sym (digits k c (λ i. getD xs i 0))) (ended bytes (at + c * k) (w .0))),
       )

@@ -10,9 +10,9 @@ use native.Mathlib.Numerals.{add-one}
 use lib.Dec.{eqb}
 use lib.Pow.{pow-mono}
 use borrow.Author.Tests.{eq-eqb, ne-eqb}
-use Rattle.sets.specs.Bit.{has, setOf}
-use Rattle.sets.proofs.Bits.{lt-or-le}
-use Rattle.sets.proofs.Members.{setOf-lt, has-setOf, has-above, set-ext}
+use Rattle.sets.specs.Bit.{isSet, has, setOf}
+use Rattle.sets.proofs.Counting.{lt-or-le}
+use Rattle.sets.proofs.Members.{setOf-lt, isSet-setOf, is-setOf, isSet-above}
 
 -- the number i is added
 pub add-on : (w s i : ℕ) (on : Bool) → on ≡ true → setOf w (λ k. has s k || eqb k i) ≡ setOf w (λ k. has s k || (on && eqb k i))
@@ -27,7 +27,7 @@ add-off w s i on l e = same ∙ ap (λ (b : Bool). setOf w (λ k. has s k || (b 
     or-false false = refl
 
     same : s ≡ setOf w (λ k. has s k || false)
-    same = set-ext w s (setOf w (λ k. has s k || false)) l (setOf-lt w (λ k. has s k || false)) (λ k lk. or-false (has s (suc k)) ∙ sym (has-setOf w (λ k. has s k || false) k lk))
+    same = unfold has in is-setOf w s (λ k. has s k || false) l (λ k lk. or-false (isSet s k))
 
 -- of the numbers 1 to i, those at which f is true, and number i + 1 where f is true there: those of 1 to i + 1
 module _ (w : ℕ) (f : ℕ → Bool) (i : ℕ) (l : i < w) where
@@ -43,25 +43,23 @@ module _ (w : ℕ) (f : ℕ → Bool) (i : ℕ) (l : i < w) where
   last true = refl
   last false = refl
 
-  grown-at : (k : ℕ) → k < w → grown (suc k) ≡ has (setOf (suc i) f) (suc k)
-  unfolding grown
-  grown-at k lk = go (ℕ-discrete k i) (lt-or-le k i)
+  grown-at : (k : ℕ) → k < w → isSet (setOf (suc i) f) k ≡ grown (suc k)
+  unfolding grown has
+  grown-at k lk = sym (go (ℕ-discrete k i) (lt-or-le k i))
     where
-      go : Dec (k ≡ i) → (k < i) ⊎ (i ≤ k) → has (setOf i f) (suc k) || (f (suc i) && eqb (suc k) (suc i)) ≡ has (setOf (suc i) f) (suc k)
+      go : Dec (k ≡ i) → (k < i) ⊎ (i ≤ k) → isSet (setOf i f) k || (f (suc i) && eqb (suc k) (suc i)) ≡ isSet (setOf (suc i) f) k
       go (yes e) q =
-          ap₂ (λ (a b : Bool). a || (f (suc i) && b)) (has-above i (setOf i f) k (setOf-lt i f) (omega arith)) (eq-eqb (suc k) (suc i) (ap suc e))
-          ∙ last (f (suc i)) ∙ ap (λ (j : ℕ). f (suc j)) (sym e) ∙ sym (has-setOf (suc i) f k (omega arith))
+          ap₂ (λ (a b : Bool). a || (f (suc i) && b)) (isSet-above i (setOf i f) k (setOf-lt i f) (omega arith)) (eq-eqb (suc k) (suc i) (ap suc e))
+          ∙ last (f (suc i)) ∙ ap (λ (j : ℕ). f (suc j)) (sym e) ∙ sym (isSet-setOf (suc i) f k (omega arith))
       go (no ne) (inl q) =
-          ap₂ (λ (a b : Bool). a || (f (suc i) && b)) (has-setOf i f k q) (ne-eqb (suc k) (suc i) (λ e. ne (omega arith)))
-          ∙ others (f (suc k)) (f (suc i)) ∙ sym (has-setOf (suc i) f k (omega arith))
+          ap₂ (λ (a b : Bool). a || (f (suc i) && b)) (isSet-setOf i f k q) (ne-eqb (suc k) (suc i) (λ e. ne (omega arith)))
+          ∙ others (f (suc k)) (f (suc i)) ∙ sym (isSet-setOf (suc i) f k (omega arith))
       go (no ne) (inr q) =
-          ap₂ (λ (a b : Bool). a || (f (suc i) && b)) (has-above i (setOf i f) k (setOf-lt i f) q) (ne-eqb (suc k) (suc i) (λ e. ne (omega arith)))
-          ∙ others false (f (suc i)) ∙ sym (has-above (suc i) (setOf (suc i) f) k (setOf-lt (suc i) f) (omega arith))
+          ap₂ (λ (a b : Bool). a || (f (suc i) && b)) (isSet-above i (setOf i f) k (setOf-lt i f) q) (ne-eqb (suc k) (suc i) (λ e. ne (omega arith)))
+          ∙ others false (f (suc i)) ∙ sym (isSet-above (suc i) (setOf (suc i) f) k (setOf-lt (suc i) f) (omega arith))
 
   grows : setOf w grown ≡ setOf (suc i) f
-  grows =
-      set-ext w (setOf w grown) (setOf (suc i) f) (setOf-lt w grown) (lt-of-lt-of-le (setOf-lt (suc i) f) (pow-mono l))
-      (λ k lk. has-setOf w grown k lk ∙ grown-at k lk)
+  grows = sym (is-setOf w (setOf (suc i) f) grown (lt-of-lt-of-le (setOf-lt (suc i) f) (pow-mono l)) grown-at)
 
   -- as a loop has it: s so far, and v the set after the turn
   pub add-next : (s : ℕ) (on : Bool) (v : ℕ) → s ≡ setOf i f → on ≡ f (i + 1) → v ≡ setOf w (λ k. has s k || (on && eqb k (i + 1))) → v ≡ setOf (i + 1) f

@@ -12,9 +12,9 @@ use lib.ListN.{length, getD, List·getD-eq-default}
 use Rattle.sets.specs.Bit.{has, setOf, each}
 use Rattle.sets.specs.Count.{toNat}
 use Rattle.sets.specs.Lists.{tabulate, places}
-use Rattle.sets.proofs.Bits.{lt-or-le}
+use Rattle.sets.proofs.Counting.{lt-or-le}
 use Rattle.sets.proofs.Lists.{tabulate-length, tabulate-at, places-length, places-at, is-tabulate}
-use Rattle.sets.proofs.Members.{has-above}
+use Rattle.sets.proofs.Members.{has-past}
 use Rattle.rule.specs.Sheet.{amount}
 use Rattle.rule.specs.Demand.{surplusAtLeast, best, demand, demands}
 use Rattle.rule.specs.Excess.{positive}
@@ -105,7 +105,7 @@ module _ (m : ℕ) (lm : m ≤ 32) (p : List ℕ) (long : length p ≡ m) where
       beyond k l = let e : 1 + k ≡ suc k = omega arith in ap (amount p) e ∙ (unfold amount in past k l)
 
       outside : (k : ℕ) → m ≤ k → has s (1 + k) ≡ false
-      outside k l = let e : 1 + k ≡ suc k = omega arith in ap (has s) e ∙ has-above m s k ls l
+      outside k l = let e : 1 + k ≡ suc k = omega arith in ap (has s) e ∙ has-past m s (suc k) ls (omega arith)
 
       go : (k : ℕ) → (k < m) ⊎ (m ≤ k) → kept (1 + k) ≡ getD (tabulate m kept 1) k 0
       go k (inl l) = sym (tabulate-at m kept 1 k 0 l)

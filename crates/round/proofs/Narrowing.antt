@@ -10,9 +10,9 @@ use native.Mathlib.Nat.{lt-of-lt-of-le}
 use lib.Dec.{ltb}
 use lib.ListN.{length, getD, length-map, List·getD-eq-default}
 use lib.Pow.{pow-mono}
-use Rattle.sets.specs.Bit.{has, setOf}
-use Rattle.sets.proofs.Bits.{lt-or-le}
-use Rattle.sets.proofs.Members.{has-above, empty-has, setOf-lt, has-setOf, set-ext}
+use Rattle.sets.specs.Bit.{isSet, has, setOf}
+use Rattle.sets.proofs.Counting.{lt-or-le}
+use Rattle.sets.proofs.Members.{isSet-above, empty-has, has-past, setOf-lt, isSet-setOf, is-setOf}
 use Rattle.rule.specs.Sheet.{amount}
 use Rattle.rule.specs.Demand.{Demand, nth}
 use Rattle.rule.specs.Excess.{excessDemand, positiveExcessDemand, excessSupply, positive}
@@ -23,12 +23,11 @@ use Rattle.round.proofs.Reporting.{reports-length, report, map-report, 
 
 -- a set that is given by a test which fails past m
 pub setOf-narrow : (m w : ℕ) (f : ℕ → Bool) → m ≤ w → ((k : ℕ) → m ≤ k → k < w → f (suc k) ≡ false) → setOf w f ≡ setOf m f
-setOf-narrow m w f l off =
-    set-ext w (setOf w f) (setOf m f) (setOf-lt w f) (lt-of-lt-of-le (setOf-lt m f) (pow-mono l)) (λ k lk. has-setOf w f k lk ∙ go k lk (lt-or-le k m))
+setOf-narrow m w f l off = sym (is-setOf w (setOf m f) f (lt-of-lt-of-le (setOf-lt m f) (pow-mono l)) (λ k lk. go k lk (lt-or-le k m)))
   where
-    go : (k : ℕ) → k < w → (k < m) ⊎ (m ≤ k) → f (suc k) ≡ has (setOf m f) (suc k)
-    go k lk (inl q) = sym (has-setOf m f k q)
-    go k lk (inr q) = off k q lk ∙ sym (has-above m (setOf m f) k (setOf-lt m f) q)
+    go : (k : ℕ) → k < w → (k < m) ⊎ (m ≤ k) → isSet (setOf m f) k ≡ f (suc k)
+    go k lk (inl q) = isSet-setOf m f k q
+    go k lk (inr q) = isSet-above m (setOf m f) k (setOf-lt m f) q ∙ sym (off k q lk)
 
 pub positive-narrow : (m : ℕ) (p : List ℕ) → m ≤ 32 → ((k : ℕ) → m ≤ k → getD p k 0 ≡ 0) → positive 32 p ≡ positive m p
 unfolding positive amount
@@ -80,7 +79,7 @@ module _ (m n : ℕ) (sets : List ℕ) (r : Reported m n sets) (nulls : ℕ) whe
     inside-narrow : (d : Demand) → inside 32 above d ≡ inside m above d
     unfolding inside
     inside-narrow d =
-        setOf-narrow m 32 (λ i. has (d .items) i && has above i) (r .max-items) (λ k l lk. both-false (has (d .items) (suc k)) (has above (suc k)) (has-above m above k la l))
+        setOf-narrow m 32 (λ i. has (d .items) i && has above i) (r .max-items) (λ k l lk. both-false (has (d .items) (suc k)) (has above (suc k)) (has-past m above (suc k) la (omega arith)))
 
     inside-none : (said : Bool) → inside 32 above (record { null = said; items = 0 }) ≡ 0
     unfolding inside setOf
@@ -97,4 +96,4 @@ module _ (m n : ℕ) (sets : List ℕ) (r : Reported m n sets) (nulls : ℕ) whe
     falling-narrow =
         ap (λ (s : ℕ). setOf 32 (λ i. has above i && not (has s i))) kept-narrow
         ∙ setOf-narrow m 32 (λ i. has above i && not (has (positiveExcessDemand m above (reports n sets nulls)) i)) (r .max-items)
-        (λ k l lk. ap (λ (b : Bool). b && not (has (positiveExcessDemand m above (reports n sets nulls)) (suc k))) (has-above m above k la l))
+        (λ k l lk. ap (λ (b : Bool). b && not (has (positiveExcessDemand m above (reports n sets nulls)) (suc k))) (has-past m above (suc k) la (omega arith)))

@@ -7,7 +7,7 @@ use native.Mathlib.Omega.{arith}
 use lib.ListN.{length}
 use borrow.Author.Count.{below-more}
 use Rattle.assignment.specs.Choice.{completed, nextOption, Begun}
-use Rattle.assignment.proofs.Choosing.{lowest-found, lowest-none}
+use Rattle.assignment.proofs.Choosing.{first-found, none-found}
 use borrow.Author.Needs.{needs}
 use Rattle.assignment.proofs.option.Statement.{statement}
 use Rattle.assignment.proofs.option.Tie as tie
@@ -35,7 +35,7 @@ returns c =
     let at = c .before .before .before .loop in
     let lt = c .before .before .loop-test .taken in (
       omega arith,
-      λ n ys t e lb. lowest-found (λ i. completed n (a .sets .now) (a .nulls) (a .above) (ys ++ (i ∷ []))) (at .i) (at .inv .0) lt (sym (c .before .works .ensures n ys t e lb) ∙ c .if1 .taken)
+      λ n ys t e lb. first-found (λ i. completed n (a .sets .now) (a .nulls) (a .above) (ys ++ (i ∷ []))) (at .i) (at .inv .0) lt (sym (c .before .works .ensures n ys t e lb) ∙ c .if1 .taken)
           (λ j l pos. at .inv .2 j l pos n ys t e lb),
     )
 
@@ -56,7 +56,7 @@ unfolding nextOption
 returns-2 c =
     let a = c .before .before .args in
     let at = c .before .loop in
-    (omega arith, λ n ys t e lb. lowest-none (λ i. completed n (a .sets .now) (a .nulls) (a .above) (ys ++ (i ∷ []))) (λ j l pos. at .inv .2 j (omega (arith, l, c .loop-test .left)) pos n ys t e lb))
+    (omega arith, λ n ys t e lb. none-found (λ i. completed n (a .sets .now) (a .nulls) (a .above) (ys ++ (i ∷ []))) (λ j l pos. at .inv .2 j (omega (arith, l, c .loop-test .left)) pos n ys t e lb))
 
 pub option-spec : {M : Type 1} → statement M
 option-spec =
