@@ -1,5 +1,10 @@
 pub mod Loops
 pub mod Unused
-pub mod Places
 pub mod Parts
 pub mod Opening
+pub mod Phases
+pub mod Formed
+pub mod Refusing
+pub mod Ending
+pub mod Bounds
+pub mod Sets

@@ -1,4 +1,4 @@
--- Places past the items. Assumes nothing.
+-- The clauses of number 11 that a loop tests place by place: where it fails, where it goes on, and what holds at its end. Assumes nothing.
 use mathlib.Core.Path.{_≡_, refl, ap, sym, _∙_}
 use mathlib.Core.Bool.{Bool, true, false, _&&_, _||_, not}
 use Prim.Native.Nat.{ℕ, zero, suc, _+_, _-_, _^_, _≤_, _<_}
@@ -9,7 +9,6 @@ use borrow.Author.Tests.{le-leb, lt-leb, eq-eqb, ne-eqb, eqb-true}
 use Rattle.sets.specs.Count.{_⇒_, allBelow, anyBelow}
 use Rattle.sets.specs.Bit.{has, setOf}
 use Rattle.sets.proofs.Counting.{all-use, all-make, imp-make, imp-use, is-false, any-use, any-make, not-both, and-both, and-left, and-right, or-right}
-use Rattle.sets.proofs.Members.{set-ext, setOf-lt, has-setOf}
 use Rattle.rule.specs.Sheet.{amount}
 use Rattle.live.specs.Auction.{place, isEmpty, beyond, unfit, hasReported, unusedPrices, unusedPlaces, unusedBits, missing, reportedFit, othersEmpty}
 use Rattle.rule.specs.Demand.{Demand}
@@ -34,17 +33,6 @@ zero-fails r k l m ne = all-fails 32 (zeroFrom r) k m (rw (le-leb (r .items) k l
 pub zero-all : (r : Auction) (n : ℕ) → 32 ≤ n → allBelow n (zeroFrom r) ≡ true → unusedPrices r ≡ true
 unfolding unusedPrices
 zero-all r n l e = all-make 32 (zeroFrom r) (λ k m. all-use n (zeroFrom r) e k (omega arith))
-
--- ---- a bidder's bit
-
-or-none : (a : Bool) → a || false ≡ a
-or-none true = refl
-or-none false = refl
-
-pub said-no : (s b : ℕ) → s < 2 ^ 64 → s ≡ setOf 64 (λ i. has s i || (false && eqb i b))
-said-no s b l =
-    set-ext 64 s (setOf 64 (λ i. has s i || (false && eqb i b))) l (setOf-lt 64 (λ i. has s i || (false && eqb i b)))
-    (λ k m. sym (has-setOf 64 (λ i. has s i || (false && eqb i b)) k m ∙ or-none (has s (suc k))))
 
 -- ---- item sets with items beyond the count
 
@@ -112,6 +100,10 @@ unfolding unusedPlaces
 place-all r n l e = all-make 64 (pastPlace r) (λ k b. all-use n (pastPlace r) e k (omega arith))
 
 -- ---- what 8 refuses
+
+or-none : (a : Bool) → a || false ≡ a
+or-none true = refl
+or-none false = refl
 
 module _ (m : ℕ) (n : Bool) (s : ℕ) where
   pub unfit-beyond : anyBelow 32 (pastItem m s) ≡ true → unfit m (saying n s) ≡ true

@@ -1,3 +1,4 @@
 pub mod Auction
 pub mod Calls
+pub mod Tidy
 pub mod Reading

@@ -12,8 +12,14 @@ ghost use Rattle.sets.specs.Lists.{places};
 ghost use Rattle.rule.specs.Sheet.{amount, priceSum};
 ghost use Rattle.rule.specs.Demand.{Demand};
 ghost use Rattle.rule.specs.Refusal.{anyOver};
-ghost use Rattle.live.specs.Auction.{place, hasReported, isEmpty, beyond, unfit, countsFit, pricesFit, unusedPrices, unusedPlaces, unusedBits, reportedFit, othersEmpty, missing};
-ghost use Rattle.live.specs.Calls.{zeros, unopened, openAuction, cleared, withReport, saying};
+ghost use Rattle.live.specs.Auction.{place, hasReported, isEmpty, beyond, unfit, countsFit, pricesFit, unusedPrices, unusedPlaces, unusedBits, reportedFit, othersEmpty, missing, roundsFit, closeFits, risingSet, fallingSet, wellFormed};
+ghost use Rattle.live.specs.Calls.{zeros, unopened, openAuction, cleared, withReport, saying, isClosed, reportNumber, report, clearNumber, clear, atTop, settled, endingOf, endAnswer, endNext};
+ghost use Rattle.rule.specs.Round.{raised, lowered, closed};
+ghost use Rattle.live.specs.declared.Phase.the-variants.{Rising, Falling};
+ghost use Rattle.live.specs.declared.Kind.the-variants.{Raised, Lowered};
+ghost use Rattle.live.specs.declared.Ended.the-variants.{Moved, Refused};
+ghost use Rattle.live.specs.declared.Ended.the-variants.{Closed as Closes};
+ghost use Rattle.live.specs.Tidy.{Tidy, Ready, Calm};
 
 // document 01: rising, falling, closed
 pub enum Phase {
@@ -94,14 +100,14 @@ fn wide(x: u16) -> u32
     x as u32
 }
 
-// the bidders who say null, with this bidder if so
-fn nulls_with(nulls: u64, bidder: usize, null: bool) -> u64
-    ensures { λ r. ⌜ r ≡ setOf 64 (λ i. has nulls i || (null && eqb i bidder)) ⌝ }
+// an item of the set that stands at 4,095
+fn is_top(on: bool, price: u16) -> bool
+    ensures { λ r. ⌜ r ≡ on && eqb price 4095 ⌝ }
 {
-    if null {
-        return sets::with_bidder(nulls, bidder);
+    if !on {
+        return false;
     }
-    nulls
+    price == 4095
 }
 
 // zeros only, the phase rising: the record beside an opening that is turned down
@@ -133,20 +139,6 @@ fn starts_high(start: &[u16]) -> bool
         i += 1;
     }
     false
-}
-
-// the starting prices in 32 places
-fn in_places(start: &[u16]) -> [u16; 32]
-    requires { ⌜ length (now start) ≤ 32 ⌝ }
-    ensures { λ r. ⌜ r ≡ places 32 (now (start .entry)) ⌝ }
-{
-    let mut prices: [u16; 32] = [0; 32];
-    let mut i: usize = 0;
-    while i < start.len() {
-        prices[i] = start[i];
-        i += 1;
-    }
-    prices
 }
 
 // an opening that is turned down
@@ -181,7 +173,7 @@ pub fn open(items: usize, bidders: usize, start: &[u16]) -> Reply
     if starts_high(start) {
         return refused(4);
     }
-    let prices = in_places(start);
+    let prices = round::in_places(start);
     Reply {
         number: 0,
         next: Auction {
@@ -334,7 +326,7 @@ impl Auction {
         let k = bidder - 1;
         let mut next = self;
         next.sets[k] = set;
-        next.nulls = nulls_with(next.nulls, bidder, null);
+        next.nulls = round::add_bidder(next.nulls, bidder, null);
         next.reported = sets::with_bidder(next.reported, bidder);
         next
     }
@@ -348,6 +340,319 @@ impl Auction {
             nulls: 0,
             reported: 0,
             ..self
+        }
+    }
+
+    // the phase is closed
+    fn is_closed(self) -> bool
+        ensures { λ r. ⌜ r ≡ isClosed (self .phase) ⌝ }
+    {
+        let phase = self.phase;
+        match phase {
+            Phase::Rising => false,
+            Phase::Falling => false,
+            Phase::Closed => true,
+        }
+    }
+
+    // while falling or closed: the rounds raised, and the sum of prices with the rounds lowered, are at most 4,095 × items
+    fn rounds_within(self, sum: u32) -> bool
+        requires { ⌜ (self .items ≤ 32) × (sum ≡ priceSum (self .items) (self .prices)) ⌝ }
+        ensures { λ r. ⌜ r ≡ leb (self .raised) (4095 * self .items) && leb (priceSum (self .items) (self .prices) + self .lowered) (4095 * self .items) ⌝ }
+    {
+        let most = 4095 * (self.items as u64);
+        if (self.raised as u64) > most {
+            return false;
+        }
+        (sum as u64) + (self.lowered as u64) <= most
+    }
+
+    fn rounds_fit(self) -> bool
+        requires { ⌜ self .items ≤ 32 ⌝ }
+        ensures { λ r. ⌜ r ≡ roundsFit (self .phase) self ⌝ }
+    {
+        let sum = self.price_sum();
+        let phase = self.phase;
+        match phase {
+            Phase::Rising => {
+                if self.lowered != 0 {
+                    return false;
+                }
+                self.raised <= sum
+            }
+            Phase::Falling => self.rounds_within(sum),
+            Phase::Closed => self.rounds_within(sum),
+        }
+    }
+
+    // the rising set of the reports
+    fn rising_set(self) -> u32
+        requires { ⌜ Tidy self ⌝ }
+        ensures { λ r. ⌜ r ≡ risingSet self ⌝ }
+    {
+        let sets = self.sets;
+        round::rising(&sets, self.nulls)
+    }
+
+    // the falling set of the reports
+    fn falling_set(self) -> u32
+        requires { ⌜ Tidy self ⌝ }
+        ensures { λ r. ⌜ r ≡ fallingSet self ⌝ }
+    {
+        let sets = self.sets;
+        let prices = self.prices;
+        round::falling(&sets, round::positive(&prices))
+    }
+
+    fn close_fits(self) -> bool
+        requires { ⌜ Tidy self ⌝ }
+        ensures { λ r. ⌜ r ≡ closeFits (self .phase) self ⌝ }
+    {
+        if !self.is_closed() {
+            return true;
+        }
+        if self.misses() {
+            return false;
+        }
+        if self.rising_set() != 0 {
+            return false;
+        }
+        self.falling_set() == 0
+    }
+
+    // number 11 does not apply
+    fn well_formed(self) -> bool
+        ensures { λ r. ⌜ r ≡ wellFormed self ⌝ }
+    {
+        if !self.counts_fit() {
+            return false;
+        }
+        if !self.prices_fit() {
+            return false;
+        }
+        if !self.unused_prices() {
+            return false;
+        }
+        if !self.unused_places() {
+            return false;
+        }
+        if !self.unused_bits() {
+            return false;
+        }
+        if !self.reports_fit() {
+            return false;
+        }
+        if !self.rounds_fit() {
+            return false;
+        }
+        self.close_fits()
+    }
+
+    // the number that turns a clear down, or 0: 11, 12
+    fn clear_number(self) -> u8
+        ensures { λ r. ⌜ r ≡ clearNumber self ⌝ }
+    {
+        if !self.well_formed() {
+            return 11;
+        }
+        if self.is_closed() {
+            return 12;
+        }
+        0
+    }
+
+    // the number that turns a report down, or 0: 11, 12, 7, 13, 8
+    fn report_number(self, bidder: usize, null: bool, set: u32) -> u8
+        ensures { λ r. ⌜ r ≡ reportNumber self bidder (saying null set) ⌝ }
+    {
+        let number = self.clear_number();
+        if number != 0 {
+            return number;
+        }
+        if bidder < 1 {
+            return 7;
+        }
+        if bidder > self.bidders {
+            return 7;
+        }
+        if sets::has_bidder(self.reported, bidder) {
+            return 13;
+        }
+        if refuses(self.items, null, set) {
+            return 8;
+        }
+        0
+    }
+
+    // a call that is turned down hands the record back as it came
+    fn kept(self, number: u8) -> Reply
+        ensures { λ r. ⌜ r ≡ record { number = number; next = self } ⌝ }
+    {
+        Reply { number, next: self }
+    }
+
+    // a bidder's report: 11, 12, 7, 13, 8
+    pub fn report(self, bidder: usize, null: bool, set: u32) -> Reply
+        ensures { λ r. ⌜ r ≡ report self bidder (saying null set) ⌝ }
+    {
+        let number = self.report_number(bidder, null, set);
+        if number != 0 {
+            return self.kept(number);
+        }
+        Reply {
+            number: 0,
+            next: self.with_report(bidder, null, set),
+        }
+    }
+
+    // clears the round's reports: 11, 12
+    pub fn clear(self) -> Reply
+        ensures { λ r. ⌜ r ≡ clear self ⌝ }
+    {
+        let number = self.clear_number();
+        if number != 0 {
+            return self.kept(number);
+        }
+        Reply {
+            number: 0,
+            next: self.cleared(),
+        }
+    }
+
+    // of the items of the set one stands at 4,095
+    fn at_top(self, set: u32) -> bool
+        requires { ⌜ self .items ≤ 32 ⌝ }
+        ensures { λ r. ⌜ r ≡ atTop (self .items) (self .prices) set ⌝ }
+    {
+        let mut k: usize = 0;
+        while k < self.items {
+            if is_top(sets::has_item(set, k + 1), self.prices[k]) {
+                return true;
+            }
+            k += 1;
+        }
+        false
+    }
+
+    // an end that is turned down hands the record back as it came
+    fn stopped(self, number: u8) -> Step
+        ensures { λ r. ⌜ r ≡ record { ended = Refused number; next = self } ⌝ }
+    {
+        Step {
+            ended: Ended::Refused(number),
+            next: self,
+        }
+    }
+
+    // the set goes up by 1
+    fn raised_by(self, set: u32) -> Step
+        requires { ⌜ (pricesFit self ≡ true) × (self .raised < 4294967295) ⌝ }
+        ensures { λ r. ⌜ r ≡ record { ended = Moved Raised set; next = settled self (raised set) } ⌝ }
+    {
+        let prices = self.prices;
+        let next = round::raised(&prices, set);
+        Step {
+            ended: Ended::Moved(Kind::Raised, set),
+            next: Auction {
+                prices: next,
+                sets: [0; 64],
+                nulls: 0,
+                reported: 0,
+                phase: Phase::Rising,
+                raised: self.raised + 1,
+                ..self
+            },
+        }
+    }
+
+    // the set goes down by 1
+    fn lowered_by(self, set: u32) -> Step
+        requires { ⌜ self .lowered < 4294967295 ⌝ }
+        ensures { λ r. ⌜ r ≡ record { ended = Moved Lowered set; next = settled self (lowered set) } ⌝ }
+    {
+        let prices = self.prices;
+        let next = round::lowered(&prices, set);
+        Step {
+            ended: Ended::Moved(Kind::Lowered, set),
+            next: Auction {
+                prices: next,
+                sets: [0; 64],
+                nulls: 0,
+                reported: 0,
+                phase: Phase::Falling,
+                lowered: self.lowered + 1,
+                ..self
+            },
+        }
+    }
+
+    // both sets are empty: the reports stay
+    fn closed(self) -> Step
+        ensures { λ r. ⌜ r ≡ record { ended = Closes; next = settled self closed } ⌝ }
+    {
+        Step {
+            ended: Ended::Closed,
+            next: Auction {
+                phase: Phase::Closed,
+                ..self
+            },
+        }
+    }
+
+    // the rising set is empty: the falling set goes down, or the auction closes
+    fn ended_low(self) -> Step
+        requires { ⌜ Calm self ⌝ }
+        ensures { λ r. ⌜ (endingOf (r .ended) ≡ endAnswer self) × (r .next ≡ endNext self) ⌝ }
+    {
+        let set = self.falling_set();
+        if set == 0 {
+            return self.closed();
+        }
+        self.lowered_by(set)
+    }
+
+    // while rising: 17 where an item of the rising set cannot go up
+    fn ended_rising(self, set: u32) -> Step
+        requires { ⌜ (Ready self) × (self .phase ≡ Rising) × (set ≡ risingSet self) ⌝ }
+        ensures { λ r. ⌜ (endingOf (r .ended) ≡ endAnswer self) × (r .next ≡ endNext self) ⌝ }
+    {
+        if set == 0 {
+            return self.ended_low();
+        }
+        if self.at_top(set) {
+            return self.stopped(17);
+        }
+        self.raised_by(set)
+    }
+
+    // while falling: 16 where the rising set is not empty
+    fn ended_falling(self, set: u32) -> Step
+        requires { ⌜ (Ready self) × (self .phase ≡ Falling) × (set ≡ risingSet self) ⌝ }
+        ensures { λ r. ⌜ (endingOf (r .ended) ≡ endAnswer self) × (r .next ≡ endNext self) ⌝ }
+    {
+        if set != 0 {
+            return self.stopped(16);
+        }
+        self.ended_low()
+    }
+
+    // ends the round: 11, 12, 14, then 16 or 17
+    pub fn end(self) -> Step
+        ensures { λ r. ⌜ (endingOf (r .ended) ≡ endAnswer self) × (r .next ≡ endNext self) ⌝ }
+    {
+        let number = self.clear_number();
+        if number != 0 {
+            return self.stopped(number);
+        }
+        if self.misses() {
+            return self.stopped(14);
+        }
+        let set = self.rising_set();
+        let phase = self.phase;
+        match phase {
+            Phase::Rising => self.ended_rising(set),
+            Phase::Falling => self.ended_falling(set),
+            Phase::Closed => self.stopped(12),
         }
     }
 }

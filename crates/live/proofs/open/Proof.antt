@@ -11,7 +11,7 @@ use Rattle.live.proofs.open.Statement.{statement}
 use Rattle.live.proofs.open.Tie as tie
 use Rattle.live.proofs.open.Reads as reads
 use Rattle.live.proofs.open.Lts as lts
-use Rattle.live.proofs.in_places.Reads as in-places-reads
+use Rattle.round.proofs.in_places.Reads as in-places-reads
 use Rattle.live.proofs.refused.Reads as refused-reads
 use Rattle.live.proofs.starts_high.Reads as starts-high-reads
 

@@ -13,7 +13,7 @@ use Rattle.live.proofs.Auction.with_report.Statement.{statement}
 use Rattle.live.proofs.Auction.with_report.Tie as tie
 use Rattle.live.proofs.Auction.with_report.Reads as reads
 use Rattle.live.proofs.Auction.with_report.Lts as lts
-use Rattle.live.proofs.nulls_with.Reads as nulls-with-reads
+use Rattle.round.proofs.add_bidder.Reads as add-bidder-reads
 use Rattle.sets.proofs.with_bidder.Reads as with-bidder-reads
 
 sub-k : tie.Need-sub-k
@@ -25,8 +25,8 @@ mul-next c = search needs
 element-write-next : tie.Need-element-write-next
 element-write-next c = search needs
 
-nulls-with-requires : tie.Need-nulls-with-requires
-nulls-with-requires c κs = search needs
+add-bidder-requires : tie.Need-add-bidder-requires
+add-bidder-requires c κs = search needs
 
 with-bidder-requires : tie.Need-with-bidder-requires
 with-bidder-requires c κs = search needs
@@ -44,14 +44,14 @@ returns c =
       bidders = r .bidders;
       prices = r .prices;
       sets = set (r .sets) (b - 1) new;
-      nulls = c .before .nulls-with .result;
+      nulls = c .before .add-bidder .result;
       reported = c .with-bidder .result;
       phase = r .phase;
       raised = r .raised;
       lowered = r .lowered;
     })
     (withReport r b (saying n new)) refl refl refl refl
-    (c .before .nulls-with .ensures)
+    (c .before .add-bidder .ensures)
     (c .with-bidder .ensures) refl refl refl
 
 pub with-report-spec : {M : Type 1} → statement M
@@ -61,6 +61,6 @@ with-report-spec =
     sub-k
     mul-next
     element-write-next
-    nulls-with-requires
+    add-bidder-requires
     with-bidder-requires
     returns)

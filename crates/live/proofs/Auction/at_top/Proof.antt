@@ -1,0 +1,95 @@
+-- `live::Auction::at_top` meets its contract. Assumes nothing.
+use mathlib.Core.Path.{_≡_, sym, ap, _∙_}
+use mathlib.Core.List.{List}
+use mathlib.Core.Bool.{Bool, true, false, _&&_}
+use Prim.Native.Nat.{ℕ, suc, _+_, _-_, _≤_, _<_}
+use native.Mathlib.Omega.{arith}
+use native.Mathlib.Numerals.{add-one}
+use lib.Dec.{eqb}
+use lib.ListN.{getD}
+use borrow.Author.Needs.{needs}
+use Rattle.sets.specs.Bit.{has}
+use Rattle.sets.specs.Count.{anyBelow}
+use Rattle.sets.proofs.Counting.{any-make}
+use Rattle.rule.specs.Sheet.{amount}
+use Rattle.live.specs.Calls.{atTop}
+use Rattle.live.proofs.Loops.{any-none, any-more}
+use Rattle.live.proofs.Auction.at_top.Statement.{statement}
+use Rattle.live.proofs.Auction.at_top.Tie as tie
+use Rattle.live.proofs.Auction.at_top.Reads as reads
+use Rattle.live.proofs.Auction.at_top.Lts as lts
+use Rattle.live.proofs.is_top.Reads as is-top-reads
+use Rattle.sets.proofs.has_item.Reads as has-item-reads
+
+abbrev topAt : List ℕ → ℕ → ℕ → Bool
+topAt prices set k = has set (suc k) && eqb (amount prices (suc k)) 4095
+
+abbrev Inv-loop : tie.InvT-loop
+Inv-loop set self k₀ k = (anyBelow k (topAt (self .prices) set) ≡ false) × (k ≤ self .items) × (self .items ≤ 32)
+
+abbrev μ-loop : tie.MeasureT-loop
+μ-loop set self k₀ k = self .items - k
+
+loop-holds : tie.Need-loop-holds Inv-loop μ-loop
+loop-holds c = (any-none (topAt (c .args .t1 .prices) (c .args .set)), omega arith, c .pre)
+
+add-has-item : tie.Need-add-has-item Inv-loop μ-loop
+add-has-item c = search needs
+
+has-item-requires : tie.Need-has-item-requires Inv-loop μ-loop
+has-item-requires c κs = search needs
+
+mul-is-top : tie.Need-mul-is-top Inv-loop μ-loop
+mul-is-top c = search needs
+
+element-copy-out-is-top : tie.Need-element-copy-out-is-top Inv-loop μ-loop
+element-copy-out-is-top c = search needs
+
+is-top-requires : tie.Need-is-top-requires Inv-loop μ-loop
+is-top-requires c κs = search needs
+
+returns : tie.Need-returns Inv-loop μ-loop
+unfolding atTop amount
+returns c =
+    let at = c .before .before .before .before .before .loop in
+    let a = c .before .before .before .before .before .before .args in
+    sym (any-make (a .t1 .items) (topAt (a .t1 .prices) (a .set)) (at .k) (omega arith) (sym (c .before .is-top .ensures ∙ ap (λ (b : Bool). b && eqb (getD (a .t1 .prices) (at .k) 0) 4095) (c .before .before .before .has-item .ensures ∙ ap (has (a .set)) (add-one (at .k)))) ∙ c .if1 .taken))
+
+add-k : tie.Need-add-k Inv-loop μ-loop
+add-k c = search needs
+
+loop-less : tie.Need-loop-less Inv-loop μ-loop
+loop-less c = search needs
+
+loop-again : tie.Need-loop-again Inv-loop μ-loop
+unfolding amount
+loop-again c =
+    let at = c .before .before .before .before .before .loop in
+    let a = c .before .before .before .before .before .before .args in
+    (any-more (at .k) (topAt (a .t1 .prices) (a .set)) (at .inv .0) (sym (c .before .is-top .ensures ∙ ap (λ (b : Bool). b && eqb (getD (a .t1 .prices) (at .k) 0) 4095) (c .before .before .before .has-item .ensures ∙ ap (has (a .set)) (add-one (at .k)))) ∙ c .if1 .left), omega arith, at .inv .2)
+
+returns-2 : tie.Need-returns-2 Inv-loop μ-loop
+unfolding atTop
+returns-2 c =
+    let at = c .before .loop in
+    let a = c .before .before .args in
+    let e : at .k ≡ a .t1 .items = omega (arith, at .inv .1) in
+    sym (ap (λ (n : ℕ). anyBelow n (topAt (a .t1 .prices) (a .set))) (sym e) ∙ at .inv .0)
+
+pub at-top-spec : {M : Type 1} → statement M
+at-top-spec =
+    tie.close
+    (tie.spec
+    Inv-loop
+    μ-loop
+    loop-holds
+    add-has-item
+    has-item-requires
+    mul-is-top
+    element-copy-out-is-top
+    is-top-requires
+    returns
+    add-k
+    loop-less
+    loop-again
+    returns-2)

@@ -1,0 +1,32 @@
+-- `live::Auction::falling_set` meets its contract. Assumes nothing.
+use Prim.Native.Nat.{ℕ}
+use mathlib.Core.Path.{_≡_, _∙_}
+use lib.ListN.{length, getD}
+use mir.Syntax.{w32}
+use mir.Val.{Fits}
+use borrow.Author.Needs.{needs}
+use Rattle.live.proofs.Sets.{falling-here}
+use Rattle.live.proofs.Auction.falling_set.Statement.{statement}
+use Rattle.live.proofs.Auction.falling_set.Tie as tie
+use Rattle.live.proofs.Auction.falling_set.Reads as reads
+use Rattle.live.proofs.Auction.falling_set.Lts as lts
+use Rattle.round.proofs.falling.Reads as falling-reads
+use Rattle.round.proofs.positive.Reads as positive-reads
+
+positive-requires : tie.Need-positive-requires
+positive-requires c κs = search needs
+
+falling-requires : tie.Need-falling-requires
+falling-requires c κs = search needs
+
+returns : tie.Need-returns
+returns c =
+    let r = c .before .before .before .before .before .before .args .self in
+    let long : length (r .sets) ≡ 64 = search needs in
+    let fit : (b : ℕ) → Fits w32 (getD (r .sets) b 0) = λ b. search needs in
+    let priced : length (r .prices) ≡ 32 = search needs in
+    c .falling .ensures (r .nulls)
+    ∙ falling-here r (c .before .before .before .before .before .before .pre) (record { long = long; fit = λ b. fit b .fits }) priced (c .before .positive .result) (c .before .positive .ensures)
+
+pub falling-set-spec : {M : Type 1} → statement M
+falling-set-spec = tie.close (tie.spec positive-requires falling-requires returns)

@@ -1,0 +1,51 @@
+-- `live::Auction::lowered_by` meets its contract. Assumes nothing.
+use Prim.Native.Nat.{ℕ, _+_}
+use mathlib.Core.List.{List}
+use mathlib.Core.Path.{_≡_, ap, _∙_}
+use lib.ListN.{replicate}
+use borrow.Author.Needs.{needs}
+use Rattle.live.specs.Calls.{settled}
+use Rattle.live.specs.declared.Auction.{Auction}
+use Rattle.live.specs.declared.Step.{Step}
+use Rattle.live.specs.declared.Kind.the-variants.{Lowered}
+use Rattle.live.specs.declared.Ended.the-variants.{Moved}
+use Rattle.live.specs.declared.Phase.the-variants.{Falling}
+use Rattle.live.proofs.Auction.lowered_by.Statement.{statement}
+use Rattle.live.proofs.Auction.lowered_by.Tie as tie
+use Rattle.live.proofs.Auction.lowered_by.Reads as reads
+use Rattle.live.proofs.Auction.lowered_by.Lts as lts
+use Rattle.round.proofs.lowered.Reads as lowered-reads
+
+-- the answer of the move, at the next prices
+abbrev moved : Auction → ℕ → List ℕ → Step
+moved r set p =
+    record {
+      ended = Moved Lowered set;
+      next = record {
+        items = r .items;
+        bidders = r .bidders;
+        prices = p;
+        sets = replicate 64 0;
+        nulls = 0;
+        reported = 0;
+        phase = Falling;
+        raised = r .raised;
+        lowered = r .lowered + 1;
+      };
+    }
+
+lowered-requires : tie.Need-lowered-requires
+lowered-requires c κs = search needs
+
+add-t10 : tie.Need-add-t10
+add-t10 c = search needs
+
+returns : tie.Need-returns
+unfolding settled
+returns c =
+    let r = c .before .before .before .before .args .self in
+    let set = c .before .before .before .before .args .set in
+    ap (moved r set) (c .before .lowered .ensures)
+
+pub lowered-by-spec : {M : Type 1} → statement M
+lowered-by-spec = tie.close (tie.spec lowered-requires add-t10 returns)

@@ -1,0 +1,52 @@
+-- `live::Auction::report` meets its contract. Assumes nothing.
+use Prim.Native.Nat.{ℕ}
+use mathlib.Core.Path.{_≡_, sym, ap, _∙_}
+use native.Mathlib.Omega.{arith}
+use borrow.Author.Needs.{needs}
+use Rattle.live.specs.Calls.{saying, withReport, reportNumber, report}
+use Rattle.live.specs.declared.Auction.{Auction}
+use Rattle.live.specs.declared.Reply.{Reply}
+use Rattle.live.proofs.Formed.{formed}
+use Rattle.live.proofs.Refusing.{of-bidder, report-stands, replied, reply-kept, reply-new}
+use Rattle.live.proofs.Auction.report.Statement.{statement}
+use Rattle.live.proofs.Auction.report.Tie as tie
+use Rattle.live.proofs.Auction.report.Reads as reads
+use Rattle.live.proofs.Auction.report.Lts as lts
+use Rattle.live.proofs.Auction.kept.Reads as kept-reads
+use Rattle.live.proofs.Auction.report_number.Reads as report-number-reads
+use Rattle.live.proofs.Auction.with_report.Reads as with-report-reads
+
+report-number-requires : tie.Need-report-number-requires
+report-number-requires c κs = search needs
+
+kept-requires : tie.Need-kept-requires
+kept-requires c κs = search needs
+
+returns : tie.Need-returns
+unfolding report
+returns c =
+    let a = c .before .before .before .args in
+    let new = withReport (a .self) (a .bidder) (saying (a .null) (a .set)) in
+    c .kept .ensures ∙ reply-kept (c .before .before .report-number .result) new (a .self) (c .before .if1 .taken)
+    ∙ ap (λ (y : ℕ). replied y new (a .self)) (c .before .before .report-number .ensures)
+
+with-report-requires : tie.Need-with-report-requires
+with-report-requires c κs =
+    let a = c .before .before .args in
+    let e = sym (c .if1 .left) ∙ c .before .report-number .ensures in
+    let most = formed (a .self) (report-stands (a .self) (a .bidder) (saying (a .null) (a .set)) e .formed) .max-bidders in
+    let b = of-bidder (a .self) (a .bidder) (saying (a .null) (a .set)) e in
+    (b .0, omega (arith, b .1, most))
+
+returns-2 : tie.Need-returns-2
+unfolding report
+returns-2 c =
+    let a = c .before .before .before .args in
+    let d = saying (a .null) (a .set) in
+    ap (λ (n : Auction). record { number = 0; next = n }) (c .with-report .ensures)
+    ∙ reply-new (reportNumber (a .self) (a .bidder) d) (withReport (a .self) (a .bidder) d) (a .self) (sym (c .before .if1 .left) ∙ c .before .before .report-number .ensures)
+
+pub report-spec : {M : Type 1} → statement M
+report-spec =
+    tie.close
+    (tie.spec report-number-requires kept-requires returns with-report-requires returns-2)

@@ -1,0 +1,57 @@
+-- `live::Auction::rounds_fit` meets its contract. Assumes nothing.
+use mathlib.Core.Path.{_∙_}
+use borrow.Author.Needs.{needs}
+use Rattle.live.proofs.Phases.{rises-lowered, rises-test, falls-test, closed-test}
+use Rattle.live.proofs.Auction.rounds_fit.Statement.{statement}
+use Rattle.live.proofs.Auction.rounds_fit.Tie as tie
+use Rattle.live.proofs.Auction.rounds_fit.Reads as reads
+use Rattle.live.proofs.Auction.rounds_fit.Lts as lts
+use Rattle.live.proofs.Auction.price_sum.Reads as price-sum-reads
+use Rattle.live.proofs.Auction.rounds_within.Reads as rounds-within-reads
+
+price-sum-requires : tie.Need-price-sum-requires
+price-sum-requires c κs = search needs
+
+enum-told : tie.Need-enum-told
+enum-told c = search needs
+
+returns : tie.Need-returns
+returns c = rises-lowered (c .before .before .before .before .before .args .self) (c .before .before .enum-told .given .1) (c .if1 .taken)
+
+enum-told-2 : tie.Need-enum-told-2
+enum-told-2 c = search needs
+
+rounds-within-requires : tie.Need-rounds-within-requires
+rounds-within-requires c κs = search needs
+
+enum-told-3 : tie.Need-enum-told-3
+enum-told-3 c = search needs
+
+rounds-within-requires-2 : tie.Need-rounds-within-requires-2
+rounds-within-requires-2 c κs = search needs
+
+returns-2 : tie.Need-returns-2
+returns-2 c =
+    let s = c .before .before .before .before .before .before .args .self in
+    rises-test s (c .before .before .before .enum-told .given .1) (c .before .if1 .left) (c .before .before .before .before .before .price-sum .result) (c .before .before .before .before .before .price-sum .ensures .0)
+
+returns-3 : tie.Need-returns-3
+returns-3 c = c .rounds-within .ensures ∙ falls-test (c .before .before .before .before .args .self) (c .before .enum-told2 .given .1)
+
+returns-4 : tie.Need-returns-4
+returns-4 c = c .rounds-within2 .ensures ∙ closed-test (c .before .before .before .before .args .self) (c .before .enum-told3 .given .1)
+
+pub rounds-fit-spec : {M : Type 1} → statement M
+rounds-fit-spec =
+    tie.close
+    (tie.spec
+    price-sum-requires
+    enum-told
+    returns
+    enum-told-2
+    rounds-within-requires
+    enum-told-3
+    rounds-within-requires-2
+    returns-2
+    returns-3
+    returns-4)

@@ -1,0 +1,132 @@
+-- `live::Auction::well_formed` meets its contract. Assumes nothing.
+use mathlib.Core.Path.{_≡_, refl, sym, _∙_}
+use mathlib.Core.Bool.{Bool, true, false, _&&_}
+use borrow.Author.Needs.{needs}
+use borrow.Author.Tests.{not-true, not-false}
+use Rattle.live.specs.Auction.{countsFit, pricesFit, unusedPrices, unusedPlaces, unusedBits, reportedFit, othersEmpty, roundsFit, wellFormed}
+use Rattle.live.proofs.Formed.{items-range, bidders-range}
+use Rattle.live.proofs.Auction.well_formed.Statement.{statement}
+use Rattle.live.proofs.Auction.well_formed.Tie as tie
+use Rattle.live.proofs.Auction.well_formed.Reads as reads
+use Rattle.live.proofs.Auction.well_formed.Lts as lts
+use Rattle.live.proofs.Auction.close_fits.Reads as close-fits-reads
+use Rattle.live.proofs.Auction.counts_fit.Reads as counts-fit-reads
+use Rattle.live.proofs.Auction.prices_fit.Reads as prices-fit-reads
+use Rattle.live.proofs.Auction.reports_fit.Reads as reports-fit-reads
+use Rattle.live.proofs.Auction.rounds_fit.Reads as rounds-fit-reads
+use Rattle.live.proofs.Auction.unused_bits.Reads as unused-bits-reads
+use Rattle.live.proofs.Auction.unused_places.Reads as unused-places-reads
+use Rattle.live.proofs.Auction.unused_prices.Reads as unused-prices-reads
+
+passes-1 : (c : tie.Else1) → countsFit (c .before .before .args .self) ≡ true
+passes-1 c = sym (c .before .counts-fit .ensures) ∙ not-false (c .before .counts-fit .result) (c .if1 .left)
+
+passes-2 : (c : tie.Else2) → pricesFit (c .before .before .before .before .args .self) ≡ true
+passes-2 c = sym (c .before .prices-fit .ensures) ∙ not-false (c .before .prices-fit .result) (c .if2 .left)
+
+passes-3 : (c : tie.Else3) → unusedPrices (c .before .before .before .before .before .before .args .self) ≡ true
+passes-3 c = sym (c .before .unused-prices .ensures) ∙ not-false (c .before .unused-prices .result) (c .if3 .left)
+
+passes-4 : (c : tie.Else4) → unusedPlaces (c .before .before .before .before .before .before .before .before .args .self) ≡ true
+passes-4 c = sym (c .before .unused-places .ensures) ∙ not-false (c .before .unused-places .result) (c .if4 .left)
+
+passes-5 : (c : tie.Else5) → unusedBits (c .before .before .before .before .before .before .before .before .before .before .args .self) ≡ true
+passes-5 c = sym (c .before .unused-bits .ensures) ∙ not-false (c .before .unused-bits .result) (c .if5 .left)
+
+passes-6 : (c : tie.Else6) → reportedFit (c .before .before .before .before .before .before .before .before .before .before .before .before .args .self) && othersEmpty (c .before .before .before .before .before .before .before .before .before .before .before .before .args .self) ≡ true
+passes-6 c = sym (c .before .reports-fit .ensures) ∙ not-false (c .before .reports-fit .result) (c .if6 .left)
+
+passes-7 : (c : tie.Else7) → roundsFit (c .before .before .before .before .before .before .before .before .before .before .before .before .before .before .args .self .phase) (c .before .before .before .before .before .before .before .before .before .before .before .before .before .before .args .self) ≡ true
+passes-7 c = sym (c .before .rounds-fit .ensures) ∙ not-false (c .before .rounds-fit .result) (c .if7 .left)
+
+counts-fit-requires : tie.Need-counts-fit-requires
+counts-fit-requires c κs = search needs
+
+returns : tie.Need-returns
+unfolding wellFormed
+returns c =
+    let e : countsFit (c .before .before .args .self) ≡ false = sym (c .before .counts-fit .ensures) ∙ not-true (c .before .counts-fit .result) (c .if1 .taken) in
+    simp e
+
+prices-fit-requires : tie.Need-prices-fit-requires
+prices-fit-requires c κs = search needs
+
+returns-2 : tie.Need-returns-2
+unfolding wellFormed
+returns-2 c =
+    let e : pricesFit (c .before .before .before .before .args .self) ≡ false = sym (c .before .prices-fit .ensures) ∙ not-true (c .before .prices-fit .result) (c .if2 .taken) in
+    simp (passes-1 (c .before .before), e)
+
+unused-prices-requires : tie.Need-unused-prices-requires
+unused-prices-requires c κs = search needs
+
+returns-3 : tie.Need-returns-3
+unfolding wellFormed
+returns-3 c =
+    let e : unusedPrices (c .before .before .before .before .before .before .args .self) ≡ false = sym (c .before .unused-prices .ensures) ∙ not-true (c .before .unused-prices .result) (c .if3 .taken) in
+    simp (passes-1 (c .before .before .before .before), passes-2 (c .before .before), e)
+
+unused-places-requires : tie.Need-unused-places-requires
+unused-places-requires c κs = search needs
+
+returns-4 : tie.Need-returns-4
+unfolding wellFormed
+returns-4 c =
+    let e : unusedPlaces (c .before .before .before .before .before .before .before .before .args .self) ≡ false = sym (c .before .unused-places .ensures) ∙ not-true (c .before .unused-places .result) (c .if4 .taken) in
+    simp (passes-1 (c .before .before .before .before .before .before), passes-2 (c .before .before .before .before), passes-3 (c .before .before), e)
+
+unused-bits-requires : tie.Need-unused-bits-requires
+unused-bits-requires c κs = search needs
+
+returns-5 : tie.Need-returns-5
+unfolding wellFormed
+returns-5 c =
+    let e : unusedBits (c .before .before .before .before .before .before .before .before .before .before .args .self) ≡ false = sym (c .before .unused-bits .ensures) ∙ not-true (c .before .unused-bits .result) (c .if5 .taken) in
+    simp (passes-1 (c .before .before .before .before .before .before .before .before), passes-2 (c .before .before .before .before .before .before), passes-3 (c .before .before .before .before), passes-4 (c .before .before), e)
+
+reports-fit-requires : tie.Need-reports-fit-requires
+reports-fit-requires c κs = bidders-range (c .before .before .before .before .before .before .before .before .before .before .args .self) (passes-1 (c .before .before .before .before .before .before .before .before)) .1
+
+returns-6 : tie.Need-returns-6
+unfolding wellFormed
+returns-6 c =
+    let e : reportedFit (c .before .before .before .before .before .before .before .before .before .before .before .before .args .self) && othersEmpty (c .before .before .before .before .before .before .before .before .before .before .before .before .args .self) ≡ false = sym (c .before .reports-fit .ensures) ∙ not-true (c .before .reports-fit .result) (c .if6 .taken) in
+    simp (passes-1 (c .before .before .before .before .before .before .before .before .before .before), passes-2 (c .before .before .before .before .before .before .before .before), passes-3 (c .before .before .before .before .before .before), passes-4 (c .before .before .before .before), passes-5 (c .before .before), e)
+
+rounds-fit-requires : tie.Need-rounds-fit-requires
+rounds-fit-requires c κs = items-range (c .before .before .before .before .before .before .before .before .before .before .before .before .args .self) (passes-1 (c .before .before .before .before .before .before .before .before .before .before)) .1
+
+returns-7 : tie.Need-returns-7
+unfolding wellFormed
+returns-7 c =
+    let e : roundsFit (c .before .before .before .before .before .before .before .before .before .before .before .before .before .before .args .self .phase) (c .before .before .before .before .before .before .before .before .before .before .before .before .before .before .args .self) ≡ false = sym (c .before .rounds-fit .ensures) ∙ not-true (c .before .rounds-fit .result) (c .if7 .taken) in
+    simp (passes-1 (c .before .before .before .before .before .before .before .before .before .before .before .before), passes-2 (c .before .before .before .before .before .before .before .before .before .before), passes-3 (c .before .before .before .before .before .before .before .before), passes-4 (c .before .before .before .before .before .before), passes-5 (c .before .before .before .before), passes-6 (c .before .before), e)
+
+close-fits-requires : tie.Need-close-fits-requires
+close-fits-requires c κs = record { counts = passes-1 (c .before .before .before .before .before .before .before .before .before .before .before .before); prices = passes-3 (c .before .before .before .before .before .before .before .before); places = passes-4 (c .before .before .before .before .before .before); bits = passes-5 (c .before .before .before .before) }
+
+returns-8 : tie.Need-returns-8
+unfolding wellFormed
+returns-8 c =
+    c .close-fits .ensures ∙ simp (passes-1 (c .before .before .before .before .before .before .before .before .before .before .before .before .before), passes-2 (c .before .before .before .before .before .before .before .before .before .before .before), passes-3 (c .before .before .before .before .before .before .before .before .before), passes-4 (c .before .before .before .before .before .before .before), passes-5 (c .before .before .before .before .before), passes-6 (c .before .before .before), passes-7 (c .before))
+
+pub well-formed-spec : {M : Type 1} → statement M
+well-formed-spec =
+    tie.close
+    (tie.spec
+    counts-fit-requires
+    returns
+    prices-fit-requires
+    returns-2
+    unused-prices-requires
+    returns-3
+    unused-places-requires
+    returns-4
+    unused-bits-requires
+    returns-5
+    reports-fit-requires
+    returns-6
+    rounds-fit-requires
+    returns-7
+    close-fits-requires
+    returns-8)

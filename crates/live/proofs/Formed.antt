@@ -1,0 +1,247 @@
+-- A well formed record, taken apart into what its clauses say, and put together again. Assumes nothing.
+use Prim.Native.Nat.{ℕ, zero, suc, _≤_, _<_}
+use mathlib.Core.Path.{_≡_, refl, sym, ap, _∙_}
+use mathlib.Core.Bool.{Bool, true, false, _&&_, _||_, not}
+use mathlib.Core.List.{List}
+use native.Mathlib.Omega.{arith}
+use native.Mathlib.Decide.{decLe}
+use lib.Dec.{eqb, leb, ltb}
+use lib.ListN.{length, getD, List·getD-eq-default}
+use borrow.Author.Tests.{ltb-false, le-ltb, le-leb, leb-true, eqb-true, eq-eqb}
+use Rattle.sets.specs.Count.{_⇒_, allBelow, anyBelow}
+use Rattle.sets.proofs.Counting.{and-left, and-right, and-both, all-use, all-make, any-use, any-make, imp-use, imp-make, is-false, not-both, not-is}
+use Rattle.rule.specs.Sheet.{amount}
+use Rattle.rule.specs.Refusal.{badItems, badBidders, anyOver}
+use Rattle.live.specs.Auction.{place, hasReported, isEmpty, beyond, unfit, countsFit, pricesFit, unusedPrices, unusedPlaces, unusedBits, reportedFit, othersEmpty, roundsFit, closeFits, wellFormed}
+use Rattle.live.specs.Tidy.{Tidy}
+use Rattle.live.specs.declared.Auction.{Auction}
+use Rattle.live.specs.declared.Phase.{Phase}
+
+pub or-left-false : (a b : Bool) → a || b ≡ false → a ≡ false
+or-left-false false b e = refl
+or-left-false true b e = e
+
+pub or-right-false : (a b : Bool) → a || b ≡ false → b ≡ false
+or-right-false false b e = e
+or-right-false true b e = absurd (not-both true refl e)
+
+pub or-both-false : (a b : Bool) → a ≡ false → b ≡ false → a || b ≡ false
+or-both-false false b e h = h
+or-both-false true b e h = e
+
+-- a count in its range
+pub in-range : (top x : ℕ) → ltb x 1 || ltb top x ≡ false → (1 ≤ x) × (x ≤ top)
+in-range top x e = (ltb-false x 1 (or-left-false (ltb x 1) (ltb top x) e), ltb-false top x (or-right-false (ltb x 1) (ltb top x) e))
+
+pub range-in : (top x : ℕ) → 1 ≤ x → x ≤ top → ltb x 1 || ltb top x ≡ false
+range-in top x l h = or-both-false (ltb x 1) (ltb top x) (le-ltb x 1 l) (le-ltb top x h)
+
+-- no price is above 4,095
+pub not-over : (xs : List ℕ) → anyOver xs ≡ false → (i : ℕ) → amount xs i ≤ 4095
+not-over xs e zero = unfold amount in omega arith
+not-over xs e (suc k) = unfold amount in go (decLe (length xs) k)
+  where
+    go : Dec (length xs ≤ k) → getD xs k 0 ≤ 4095
+    go (yes l) = let z : getD xs k 0 ≡ 0 = List·getD-eq-default xs 0 l in omega arith
+    go (no l) =
+        ltb-false 4095 (getD xs k 0)
+        (is-false (ltb 4095 (getD xs k 0)) (λ h. not-both (anyOver xs) (unfold anyOver in any-make (length xs) (λ k. ltb 4095 (getD xs k 0)) k (omega arith) h) e))
+
+pub over-not : (xs : List ℕ) → ((i : ℕ) → amount xs i ≤ 4095) → anyOver xs ≡ false
+unfolding anyOver
+over-not xs h = is-false (anyBelow (length xs) (λ k. ltb 4095 (getD xs k 0))) (λ e. by (any-use (length xs) (λ k. ltb 4095 (getD xs k 0)) e))
+  where
+    by : (k : ℕ) × (k < length xs) × (ltb 4095 (getD xs k 0) ≡ true) → ⊥
+    by (k, l, e) = not-both (ltb 4095 (getD xs k 0)) e (le-ltb 4095 (getD xs k 0) (unfold amount in h (suc k)))
+
+pub record Formed (r : Auction) : Type 0 where
+  pub some-item : 1 ≤ r .items
+  pub max-items : r .items ≤ 32
+  pub some-bidder : 1 ≤ r .bidders
+  pub max-bidders : r .bidders ≤ 64
+  pub price-max : (i : ℕ) → amount (r .prices) i ≤ 4095
+  pub unused-price : (k : ℕ) → k < 32 → r .items ≤ k → amount (r .prices) (suc k) ≡ 0
+  pub unused-place : (k : ℕ) → k < 64 → r .bidders ≤ k → (isEmpty (place r k) ≡ true) × (hasReported r (suc k) ≡ false)
+  pub within : (k : ℕ) → k < 64 → beyond (r .items) (place r k) ≡ false
+  pub reported-fit : (k : ℕ) → k < r .bidders → hasReported r (suc k) ≡ true → unfit (r .items) (place r k) ≡ false
+  pub other-empty : (k : ℕ) → k < r .bidders → hasReported r (suc k) ≡ false → isEmpty (place r k) ≡ true
+  pub rounds : roundsFit (r .phase) r ≡ true
+  pub at-close : closeFits (r .phase) r ≡ true
+
+-- the clauses apart
+pub record Clauses (r : Auction) : Type 0 where
+  pub counts : countsFit r ≡ true
+  pub prices : pricesFit r ≡ true
+  pub past-items : unusedPrices r ≡ true
+  pub past-bidders : unusedPlaces r ≡ true
+  pub past-bits : unusedBits r ≡ true
+  pub reported : reportedFit r ≡ true
+  pub others : othersEmpty r ≡ true
+  pub rounds : roundsFit (r .phase) r ≡ true
+  pub at-close : closeFits (r .phase) r ≡ true
+
+nine : (a b c d e f g h i : Bool) → a && b && c && d && e && f && g && h && i ≡ true
+    → (a ≡ true) × (b ≡ true) × (c ≡ true) × (d ≡ true) × (e ≡ true) × (f ≡ true) × (g ≡ true) × (h ≡ true) × (i ≡ true)
+nine a b c d e f g h i q =
+    let q8 = and-left (a && b && c && d && e && f && g && h) i q in
+    let q7 = and-left (a && b && c && d && e && f && g) h q8 in
+    let q6 = and-left (a && b && c && d && e && f) g q7 in
+    let q5 = and-left (a && b && c && d && e) f q6 in
+    let q4 = and-left (a && b && c && d) e q5 in
+    let q3 = and-left (a && b && c) d q4 in
+    let q2 = and-left (a && b) c q3 in (
+      and-left a b q2,
+      and-right a b q2,
+      and-right (a && b) c q3,
+      and-right (a && b && c) d q4,
+      and-right (a && b && c && d) e q5,
+      and-right (a && b && c && d && e) f q6,
+      and-right (a && b && c && d && e && f) g q7,
+      and-right (a && b && c && d && e && f && g) h q8,
+      and-right (a && b && c && d && e && f && g && h) i q,
+    )
+
+pub clauses : (r : Auction) → wellFormed r ≡ true → Clauses r
+unfolding wellFormed
+clauses r e =
+    let p = nine (countsFit r) (pricesFit r) (unusedPrices r) (unusedPlaces r) (unusedBits r) (reportedFit r) (othersEmpty r) (roundsFit (r .phase) r) (closeFits (r .phase) r) e in
+    record {
+      counts = p .0;
+      prices = p .1;
+      past-items = p .2;
+      past-bidders = p .3;
+      past-bits = p .4;
+      reported = p .5;
+      others = p .6;
+      rounds = p .7;
+      at-close = p .8;
+    }
+
+pub tidy : (r : Auction) → wellFormed r ≡ true → Tidy r
+tidy r e = let c = clauses r e in record { counts = c .counts; prices = c .past-items; places = c .past-bidders; bits = c .past-bits }
+
+all-true : (a b c d e f g h i : Bool) → a ≡ true → b ≡ true → c ≡ true → d ≡ true → e ≡ true → f ≡ true → g ≡ true → h ≡ true → i ≡ true
+    → a && b && c && d && e && f && g && h && i ≡ true
+all-true a b c d e f g h i qa qb qc qd qe qf qg qh qi = rw (qa, qb, qc, qd, qe, qf, qg, qh, qi) refl
+
+joined : (r : Auction) → Clauses r → wellFormed r ≡ true
+unfolding wellFormed
+joined r c =
+    all-true (countsFit r) (pricesFit r) (unusedPrices r) (unusedPlaces r) (unusedBits r) (reportedFit r) (othersEmpty r) (roundsFit (r .phase) r) (closeFits (r .phase) r)
+    (c .counts) (c .prices) (c .past-items) (c .past-bidders) (c .past-bits) (c .reported) (c .others) (c .rounds) (c .at-close)
+
+module _ (r : Auction) where
+  pub items-range : countsFit r ≡ true → (1 ≤ r .items) × (r .items ≤ 32)
+  unfolding countsFit badItems
+  items-range e = in-range 32 (r .items) (not-is (badItems (r .items)) (and-left (not (badItems (r .items))) (not (badBidders (r .bidders))) e))
+
+  pub bidders-range : countsFit r ≡ true → (1 ≤ r .bidders) × (r .bidders ≤ 64)
+  unfolding countsFit badBidders
+  bidders-range e = in-range 64 (r .bidders) (not-is (badBidders (r .bidders)) (and-right (not (badItems (r .items))) (not (badBidders (r .bidders))) e))
+
+  counts-make : 1 ≤ r .items → r .items ≤ 32 → 1 ≤ r .bidders → r .bidders ≤ 64 → countsFit r ≡ true
+  unfolding countsFit badItems badBidders
+  counts-make a b c d =
+      and-both (not (badItems (r .items))) (not (badBidders (r .bidders))) (ap not (range-in 32 (r .items) a b)) (ap not (range-in 64 (r .bidders) c d))
+
+  pub prices-use : pricesFit r ≡ true → (i : ℕ) → amount (r .prices) i ≤ 4095
+  unfolding pricesFit
+  prices-use e = not-over (r .prices) (not-is (anyOver (r .prices)) e)
+
+  prices-make : ((i : ℕ) → amount (r .prices) i ≤ 4095) → pricesFit r ≡ true
+  unfolding pricesFit
+  prices-make h = ap not (over-not (r .prices) h)
+
+  pub past-items-use : unusedPrices r ≡ true → (k : ℕ) → k < 32 → r .items ≤ k → amount (r .prices) (suc k) ≡ 0
+  unfolding unusedPrices
+  past-items-use e k l h =
+      eqb-true (amount (r .prices) (suc k)) 0
+      (imp-use (leb (r .items) k) (eqb (amount (r .prices) (suc k)) 0) (all-use 32 (λ k. leb (r .items) k ⇒ eqb (amount (r .prices) (suc k)) 0) e k l) (le-leb (r .items) k h))
+
+  past-items-make : ((k : ℕ) → k < 32 → r .items ≤ k → amount (r .prices) (suc k) ≡ 0) → unusedPrices r ≡ true
+  unfolding unusedPrices
+  past-items-make f =
+      all-make 32 (λ k. leb (r .items) k ⇒ eqb (amount (r .prices) (suc k)) 0)
+      (λ k l. imp-make (leb (r .items) k) (eqb (amount (r .prices) (suc k)) 0) (λ h. eq-eqb (amount (r .prices) (suc k)) 0 (f k l (leb-true (r .items) k h))))
+
+  abbrev vacant : ℕ → Bool
+  vacant k = isEmpty (place r k) && not (hasReported r (suc k))
+
+  pub past-bidders-use : unusedPlaces r ≡ true → (k : ℕ) → k < 64 → r .bidders ≤ k → (isEmpty (place r k) ≡ true) × (hasReported r (suc k) ≡ false)
+  unfolding unusedPlaces
+  past-bidders-use e k l h =
+      let q = imp-use (leb (r .bidders) k) (vacant k) (all-use 64 (λ k. leb (r .bidders) k ⇒ vacant k) e k l) (le-leb (r .bidders) k h) in (
+        and-left (isEmpty (place r k)) (not (hasReported r (suc k))) q,
+        not-is (hasReported r (suc k)) (and-right (isEmpty (place r k)) (not (hasReported r (suc k))) q),
+      )
+
+  past-bidders-make : ((k : ℕ) → k < 64 → r .bidders ≤ k → (isEmpty (place r k) ≡ true) × (hasReported r (suc k) ≡ false)) → unusedPlaces r ≡ true
+  unfolding unusedPlaces
+  past-bidders-make f =
+      all-make 64 (λ k. leb (r .bidders) k ⇒ vacant k)
+      (λ k l. imp-make (leb (r .bidders) k) (vacant k)
+      (λ h. and-both (isEmpty (place r k)) (not (hasReported r (suc k))) (f k l (leb-true (r .bidders) k h) .0) (ap not (f k l (leb-true (r .bidders) k h) .1))))
+
+  pub bits-use : unusedBits r ≡ true → (k : ℕ) → k < 64 → beyond (r .items) (place r k) ≡ false
+  unfolding unusedBits
+  bits-use e k l = not-is (beyond (r .items) (place r k)) (all-use 64 (λ k. not (beyond (r .items) (place r k))) e k l)
+
+  bits-make : ((k : ℕ) → k < 64 → beyond (r .items) (place r k) ≡ false) → unusedBits r ≡ true
+  unfolding unusedBits
+  bits-make f = all-make 64 (λ k. not (beyond (r .items) (place r k))) (λ k l. ap not (f k l))
+
+  reported-use : reportedFit r ≡ true → (k : ℕ) → k < r .bidders → hasReported r (suc k) ≡ true → unfit (r .items) (place r k) ≡ false
+  unfolding reportedFit
+  reported-use e k l h =
+      not-is (unfit (r .items) (place r k))
+      (imp-use (hasReported r (suc k)) (not (unfit (r .items) (place r k))) (all-use (r .bidders) (λ k. hasReported r (suc k) ⇒ not (unfit (r .items) (place r k))) e k l) h)
+
+  reported-make : ((k : ℕ) → k < r .bidders → hasReported r (suc k) ≡ true → unfit (r .items) (place r k) ≡ false) → reportedFit r ≡ true
+  unfolding reportedFit
+  reported-make f =
+      all-make (r .bidders) (λ k. hasReported r (suc k) ⇒ not (unfit (r .items) (place r k)))
+      (λ k l. imp-make (hasReported r (suc k)) (not (unfit (r .items) (place r k))) (λ h. ap not (f k l h)))
+
+  others-use : othersEmpty r ≡ true → (k : ℕ) → k < r .bidders → hasReported r (suc k) ≡ false → isEmpty (place r k) ≡ true
+  unfolding othersEmpty
+  others-use e k l h =
+      imp-use (not (hasReported r (suc k))) (isEmpty (place r k)) (all-use (r .bidders) (λ k. not (hasReported r (suc k)) ⇒ isEmpty (place r k)) e k l) (ap not h)
+
+  others-make : ((k : ℕ) → k < r .bidders → hasReported r (suc k) ≡ false → isEmpty (place r k) ≡ true) → othersEmpty r ≡ true
+  unfolding othersEmpty
+  others-make f =
+      all-make (r .bidders) (λ k. not (hasReported r (suc k)) ⇒ isEmpty (place r k))
+      (λ k l. imp-make (not (hasReported r (suc k))) (isEmpty (place r k)) (λ h. f k l (not-is (hasReported r (suc k)) h)))
+
+  pub formed : wellFormed r ≡ true → Formed r
+  formed e =
+      let c = clauses r e in
+      record {
+        some-item = items-range (c .counts) .0;
+        max-items = items-range (c .counts) .1;
+        some-bidder = bidders-range (c .counts) .0;
+        max-bidders = bidders-range (c .counts) .1;
+        price-max = prices-use (c .prices);
+        unused-price = past-items-use (c .past-items);
+        unused-place = past-bidders-use (c .past-bidders);
+        within = bits-use (c .past-bits);
+        reported-fit = reported-use (c .reported);
+        other-empty = others-use (c .others);
+        rounds = c .rounds;
+        at-close = c .at-close;
+      }
+
+  pub well : Formed r → wellFormed r ≡ true
+  well f =
+      joined r
+      (record {
+        counts = counts-make (f .some-item) (f .max-items) (f .some-bidder) (f .max-bidders);
+        prices = prices-make (f .price-max);
+        past-items = past-items-make (f .unused-price);
+        past-bidders = past-bidders-make (f .unused-place);
+        past-bits = bits-make (f .within);
+        reported = reported-make (f .reported-fit);
+        others = others-make (f .other-empty);
+        rounds = f .rounds;
+        at-close = f .at-close;
+      })

@@ -1,0 +1,147 @@
+-- The numbers of the calls on a record: 11 and 12 come first in all but a read, and a call that gets a number hands the record back as it came. Assumes
+-- nothing.
+use Prim.Native.Nat.{ℕ, zero, suc, _≤_, _<_}
+use mathlib.Core.Path.{_≡_, refl, sym, ap, _∙_}
+use mathlib.Core.Bool.{Bool, true, false, _||_, not, true≢false}
+use mathlib.Core.List.{List, [], _∷_}
+use native.Mathlib.Omega.{arith}
+use lib.Dec.{ltb}
+use borrow.Author.Tests.{lt-ltb, le-ltb, ltb-false, not-false}
+use Rattle.rule.specs.Demand.{Demand}
+use Rattle.rule.specs.Refusal.{Refusal, on, first, badBidder}
+use Rattle.rule.proofs.Refusal.{passed, given}
+use Rattle.live.specs.Auction.{hasReported, unfit, wellFormed}
+use Rattle.live.specs.Calls.{isClosed, clearNumber, reportNumber}
+use Rattle.live.specs.declared.Auction.{Auction}
+use Rattle.live.specs.declared.Reply.{Reply}
+
+-- no number: the condition fails, and no later number is given
+pub none : (n : ℕ) (a : Bool) (rest : List Refusal) → first (on (suc n) a ∷ rest) ≡ 0 → (a ≡ false) × (first rest ≡ 0)
+unfolding first
+none n true rest e = absurd (omega arith)
+none n false rest e = (refl, e)
+
+-- ---- 11 and 12
+
+-- neither
+pub record Stands (r : Auction) : Type 0 where
+  pub formed : wellFormed r ≡ true
+  pub running : isClosed (r .phase) ≡ false
+
+module _ (r : Auction) where
+  -- the number of a call whose later refusals are `rest`
+  abbrev pub begun : List Refusal → ℕ
+  begun rest = first (on 11 (not (wellFormed r)) ∷ on 12 (isClosed (r .phase)) ∷ rest)
+
+  pub eleven : (rest : List Refusal) → wellFormed r ≡ false → 11 ≡ begun rest
+  eleven rest e = sym (given 11 (not (wellFormed r)) (on 12 (isClosed (r .phase)) ∷ rest) (ap not e))
+
+  pub twelve : (rest : List Refusal) → wellFormed r ≡ true → isClosed (r .phase) ≡ true → 12 ≡ begun rest
+  twelve rest e q =
+      sym (passed 11 (not (wellFormed r)) (on 12 (isClosed (r .phase)) ∷ rest) (ap not e) ∙ given 12 (isClosed (r .phase)) rest q)
+
+  pub later : (rest : List Refusal) → Stands r → first rest ≡ begun rest
+  later rest s =
+      sym (passed 11 (not (wellFormed r)) (on 12 (isClosed (r .phase)) ∷ rest) (ap not (s .formed)) ∙ passed 12 (isClosed (r .phase)) rest (s .running))
+
+  -- no number: neither
+  pub standing : (rest : List Refusal) → begun rest ≡ 0 → Stands r
+  standing rest e =
+      let a = none 10 (not (wellFormed r)) (on 12 (isClosed (r .phase)) ∷ rest) e in
+      let b = none 11 (isClosed (r .phase)) rest (a .1) in
+      record { formed = not-false (wellFormed r) (a .0); running = b .0 }
+
+  pub no-later : (rest : List Refusal) → begun rest ≡ 0 → first rest ≡ 0
+  no-later rest e =
+      let a = none 10 (not (wellFormed r)) (on 12 (isClosed (r .phase)) ∷ rest) e in
+      none 11 (isClosed (r .phase)) rest (a .1) .1
+
+  -- the number of a clear is that of every such call; where it is 0, the record stands
+  pub stops : (rest : List Refusal) (x : ℕ) → x ≡ clearNumber r → (x ≡ 0 → ⊥) → x ≡ begun rest
+  unfolding clearNumber
+  stops rest x e ne = go (wellFormed r) (isClosed (r .phase)) e
+    where
+      go : (a b : Bool) → x ≡ first (on 11 (not a) ∷ on 12 b ∷ []) → x ≡ first (on 11 (not a) ∷ on 12 b ∷ rest)
+      go false b q = q ∙ given 11 true (on 12 b ∷ []) refl ∙ sym (given 11 true (on 12 b ∷ rest) refl)
+      go true true q =
+          q ∙ passed 11 false (on 12 true ∷ []) refl ∙ given 12 true [] refl ∙ sym (passed 11 false (on 12 true ∷ rest) refl ∙ given 12 true rest refl)
+      go true false q = absurd (ne (q ∙ passed 11 false (on 12 false ∷ []) refl ∙ passed 12 false [] refl ∙ (unfold first in refl)))
+
+  pub stands : (x : ℕ) → x ≡ clearNumber r → x ≡ 0 → Stands r
+  unfolding clearNumber
+  stands x e z = standing [] (sym e ∙ z)
+
+-- ---- 7, 13, 8
+
+bad-low : (n b : ℕ) → b < 1 → badBidder n b ≡ true
+unfolding badBidder
+bad-low n b l = simp (lt-ltb b 1 l)
+
+bad-high : (n b : ℕ) → 1 ≤ b → n < b → badBidder n b ≡ true
+unfolding badBidder
+bad-high n b l h = simp (le-ltb b 1 l, lt-ltb n b h)
+
+bad-none : (n b : ℕ) → badBidder n b ≡ false → (1 ≤ b) × (b ≤ n)
+unfolding badBidder
+bad-none n b e = go (ltb b 1) (ltb n b) refl refl e
+  where
+    go : (x y : Bool) → ltb b 1 ≡ x → ltb n b ≡ y → x || y ≡ false → (1 ≤ b) × (b ≤ n)
+    go true y f g q = absurd (true≢false q)
+    go false true f g q = absurd (true≢false q)
+    go false false f g q = (ltb-false b 1 f, ltb-false n b g)
+
+pub bad-not : (n b : ℕ) → 1 ≤ b → b ≤ n → badBidder n b ≡ false
+unfolding badBidder
+bad-not n b l h = simp (le-ltb b 1 l, le-ltb n b h)
+
+module _ (r : Auction) (b : ℕ) (d : Demand) (s : Stands r) where
+  abbrev after-7 : List Refusal
+  after-7 = on 13 (hasReported r b) ∷ on 8 (unfit (r .items) d) ∷ []
+
+  seven : badBidder (r .bidders) b ≡ true → 7 ≡ reportNumber r b d
+  unfolding reportNumber
+  seven e = sym (given 7 (badBidder (r .bidders) b) after-7 e) ∙ later r (on 7 (badBidder (r .bidders) b) ∷ after-7) s
+
+  pub seven-low : b < 1 → 7 ≡ reportNumber r b d
+  seven-low l = seven (bad-low (r .bidders) b l)
+
+  pub seven-high : 1 ≤ b → r .bidders < b → 7 ≡ reportNumber r b d
+  seven-high l h = seven (bad-high (r .bidders) b l h)
+
+  module _ (l : 1 ≤ b) (h : b ≤ r .bidders) where
+    past-7 : first after-7 ≡ reportNumber r b d
+    unfolding reportNumber
+    past-7 = sym (passed 7 (badBidder (r .bidders) b) after-7 (bad-not (r .bidders) b l h)) ∙ later r (on 7 (badBidder (r .bidders) b) ∷ after-7) s
+
+    pub thirteen : hasReported r b ≡ true → 13 ≡ reportNumber r b d
+    thirteen e = sym (given 13 (hasReported r b) (on 8 (unfit (r .items) d) ∷ []) e) ∙ past-7
+
+    pub eight : hasReported r b ≡ false → unfit (r .items) d ≡ true → 8 ≡ reportNumber r b d
+    eight e q = sym (passed 13 (hasReported r b) (on 8 (unfit (r .items) d) ∷ []) e ∙ given 8 (unfit (r .items) d) [] q) ∙ past-7
+
+    pub accepted : hasReported r b ≡ false → unfit (r .items) d ≡ false → 0 ≡ reportNumber r b d
+    accepted e q = sym (passed 13 (hasReported r b) (on 8 (unfit (r .items) d) ∷ []) e ∙ passed 8 (unfit (r .items) d) [] q ∙ (unfold first in refl)) ∙ past-7
+
+-- a report that gets no number is of a bidder
+pub of-bidder : (r : Auction) (b : ℕ) (d : Demand) → 0 ≡ reportNumber r b d → (1 ≤ b) × (b ≤ r .bidders)
+unfolding reportNumber
+of-bidder r b d e =
+    let rest = on 7 (badBidder (r .bidders) b) ∷ on 13 (hasReported r b) ∷ on 8 (unfit (r .items) d) ∷ [] in
+    bad-none (r .bidders) b (none 6 (badBidder (r .bidders) b) (on 13 (hasReported r b) ∷ on 8 (unfit (r .items) d) ∷ []) (no-later r rest (sym e)) .0)
+
+pub report-stands : (r : Auction) (b : ℕ) (d : Demand) → 0 ≡ reportNumber r b d → Stands r
+unfolding reportNumber
+report-stands r b d e = standing r (on 7 (badBidder (r .bidders) b) ∷ on 13 (hasReported r b) ∷ on 8 (unfit (r .items) d) ∷ []) (sym e)
+
+-- ---- what is handed back
+
+abbrev pub replied : ℕ → Auction → Auction → Reply
+replied x new old = record { number = x; next = elim x [ zero ↦ new | suc j ↦ old ] }
+
+pub reply-kept : (x : ℕ) (new old : Auction) → (x ≡ 0 → ⊥) → record { number = x; next = old } ≡ replied x new old
+reply-kept zero new old ne = absurd (ne refl)
+reply-kept (suc j) new old ne = refl
+
+pub reply-new : (x : ℕ) (new old : Auction) → 0 ≡ x → record { number = 0; next = new } ≡ replied x new old
+reply-new zero new old e = refl
+reply-new (suc j) new old e = absurd (omega arith)
