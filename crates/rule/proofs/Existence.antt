@@ -20,8 +20,8 @@ use Rattle.rule.specs.Demand.{Demand, wants, nth}
 use Rattle.rule.specs.Excess.{excessDemand, positiveExcessDemand, excessSupply}
 use Rattle.rule.specs.Assignment.{option, fits, someList, assignment}
 use Rattle.rule.proofs.Largest.{supply-empty}
-use Rattle.rule.proofs.Profile.{active, inside, map-at, active-items, active-part, active-small, inside-part}
-use Rattle.rule.proofs.Lower.{item-bit, map-past, rising-wide, positive-wide}
+use Rattle.rule.proofs.Profile.{active, inside, map-at, item-bit, active-items, active-part, active-small, inside-part}
+use Rattle.rule.proofs.Lower.{map-past, rising-wide, positive-wide}
 use Rattle.rule.proofs.Order.{choose-passes}
 use Rattle.rule.proofs.Completion.{Begun}
 use Rattle.rule.proofs.Asking.{Asked, completes-is}
