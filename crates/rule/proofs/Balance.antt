@@ -20,8 +20,7 @@ use Rattle.rule.specs.Equilibrium.{Equilibrium, Below}
 pub use Rattle.rule.proofs.Limits.{amount-null}
 pub use Rattle.rule.proofs.AtPrices.{positive-is}
 use Rattle.rule.proofs.Limits.{prices-ext, below-all}
-use Rattle.rule.proofs.Union.{Part, likes, Crowd}
-use Rattle.rule.proofs.Overdemand.{sub}
+use Rattle.rule.proofs.Union.{Part, likes, Crowd, sub}
 use Rattle.rule.proofs.Existence.{assignment-fits}
 use Rattle.rule.proofs.Surplus.{wants-use, lowest-prices}
 use Rattle.rule.proofs.Total.{highest}

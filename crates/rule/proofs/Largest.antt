@@ -110,13 +110,16 @@ module _ (m : ℕ) (ds : List Demand) where
   unfolding inExcess
   excess-joined r s = crowded-joined m ds wants r s (λ d i l w h. w)
 
-  pub demand-excess : inExcess m ds (excessDemand m ds) ≡ true
+  -- it is in excess demand, and no set in excess demand has more items
+  pub demand-top : Largest m (2 ^ m) (inExcess m ds) (excessDemand m ds)
   unfolding excessDemand
-  demand-excess = largest-top m (inExcess m ds) excess-empty excess-joined .passes
+  demand-top = largest-is m (inExcess m ds) excess-empty
+
+  pub demand-excess : inExcess m ds (excessDemand m ds) ≡ true
+  demand-excess = demand-top .passes
 
   pub demand-bound : excessDemand m ds < 2 ^ m
-  unfolding excessDemand
-  demand-bound = largest-top m (inExcess m ds) excess-empty excess-joined .bound
+  demand-bound = demand-top .bound
 
   -- it holds every set in excess demand
   pub demand-has : (s : ℕ) → inExcess m ds s ≡ true → (i : ℕ) → i < suc m → has s i ≡ true → has (excessDemand m ds) i ≡ true
@@ -160,13 +163,16 @@ module _ (m above : ℕ) (ds : List Demand) where
       (λ i l h. elim (or-cases (has r i) (has s i) (sym (joined-has m r s i l) ∙ h)) [ inl q ↦ pr .0 i l q | inr q ↦ ps .0 i l q ])
       (crowded-joined m ds keepsAbove r s (λ d i l w h. and-both (wants d i) (has above i) w (ps .0 i l h)) (pr .1) (ps .1))
 
-  pub positive-excess : inPositiveExcess m above ds (positiveExcessDemand m above ds) ≡ true
+  -- it is such a set, and no such set has more items
+  pub positive-top : Largest m (2 ^ m) (inPositiveExcess m above ds) (positiveExcessDemand m above ds)
   unfolding positiveExcessDemand
-  positive-excess = largest-top m (inPositiveExcess m above ds) positive-empty positive-joined .passes
+  positive-top = largest-is m (inPositiveExcess m above ds) positive-empty
+
+  pub positive-excess : inPositiveExcess m above ds (positiveExcessDemand m above ds) ≡ true
+  positive-excess = positive-top .passes
 
   pub positive-bound : positiveExcessDemand m above ds < 2 ^ m
-  unfolding positiveExcessDemand
-  positive-bound = largest-top m (inPositiveExcess m above ds) positive-empty positive-joined .bound
+  positive-bound = positive-top .bound
 
   pub positive-above : (i : ℕ) → i < suc m → has (positiveExcessDemand m above ds) i ≡ true → has above i ≡ true
   positive-above = positive-use (positiveExcessDemand m above ds) positive-excess .0

@@ -1,3 +1,4 @@
+-- The argument of docs/THEORY.md, in its order.
 pub mod Limits
 pub mod Union
 pub mod Tests

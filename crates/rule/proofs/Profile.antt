@@ -19,8 +19,8 @@ use Rattle.matching.specs.Demand.{part, meets, excess, largestExcess}
 use Rattle.matching.proofs.Largest.{part-use, part-make, meets-use, meets-make, wanting, excess-use, is-largest}
 use Rattle.rule.specs.Demand.{Demand, wants, nth}
 use Rattle.rule.specs.Excess.{bidders, nonEmptyPart, somethingIn, nothingOutside, nothingAboveOutside, crowded, inExcess, excessDemand, positiveExcessDemand}
-use Rattle.rule.proofs.Union.{Part, likes, likes-use, likes-make}
-use Rattle.rule.proofs.Overdemand.{sub, sub-use, sub-make}
+use Rattle.rule.proofs.Union.{Part, likes, likes-use, likes-make, sub, sub-use, sub-make}
+use Rattle.rule.proofs.Tests.{outside-use, above-outside-use}
 use Rattle.rule.proofs.Largest.{demand-excess, demand-bound, demand-has, positive-above, positive-crowded, positive-has, positive-make, positive-bound}
 
 -- a demand's items, or none where null is demanded
@@ -124,7 +124,7 @@ module _ (m s t : ℕ) (d : Demand) where
   active-there q = go (d .null) refl
     where
       only : Part m (wants d) (has s)
-      only = sub-use m (wants d) (has s) (and-right (somethingIn m t d) (nothingOutside m s d) q)
+      only = outside-use m s d (and-right (somethingIn m t d) (nothingOutside m s d) q)
 
       go : (b : Bool) → d .null ≡ b → part m (active d) s && meets m (active d) t ≡ true
       go true e = absurd (not-both (has s 0) (only 0 (omega arith) e) (has-zero s))
@@ -197,7 +197,7 @@ module _ (m above : ℕ) where
     inside-there up p q =
         let w = likes-use m (λ b. wants d) (has t) 0 (and-left (somethingIn m t d) (nothingAboveOutside m above s d) q) in
         let k = place-of m t (w .0) (w .1) (w .3) in
-        let only = sub-use m (λ i. wants d i && has above i) (has s) (and-right (somethingIn m t d) (nothingAboveOutside m above s d) q) in
+        let only = above-outside-use m above s d (and-right (somethingIn m t d) (nothingAboveOutside m above s d) q) in
         let in-above = up (w .0) (w .1) (p (w .0) (w .1) (w .3)) in
         and-both (part m (inside m above d) s) (meets m (inside m above d) t)
         (part-make m (inside m above d) s

@@ -1,3 +1,4 @@
+-- The definitions of document 01, in its order. `sets` has below them what a set of items is, its size, and the largest set that passes a test.
 pub mod Sheet
 pub mod Demand
 pub mod Excess
