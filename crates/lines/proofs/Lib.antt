@@ -7,3 +7,4 @@ pub mod Gives
 pub mod Numbers
 pub mod Line
 pub mod ReadBack
+pub mod Same

@@ -8,3 +8,4 @@ pub mod Refusing
 pub mod Ending
 pub mod Bounds
 pub mod Sets
+pub mod Reading

@@ -56,7 +56,7 @@ module _ (r : Auction) (t : Tidy r) where
           (and-right (not (has (r .nulls) (suc b))) (eqb (getD (r .sets) b 0) 0) (past-bidders-use r (t .places) b q l .0))
       go (inr q) = List·getD-eq-default (r .sets) 0 {n = b} (omega (arith, e, q))
 
-  reported : Sets (r .sets) → Reported (r .items) (r .bidders) (r .sets)
+  pub reported : Sets (r .sets) → Reported (r .items) (r .bidders) (r .sets)
   unfolding has
   reported s =
       let most = bidders-range r (t .counts) .1 in
@@ -71,7 +71,7 @@ module _ (r : Auction) (t : Tidy r) where
   unfolding risingSet reportsOf
   rising-here s = rising-narrow (r .items) (r .bidders) (r .sets) (reported s) (r .nulls)
 
-  above-here : length (r .prices) ≡ 32 → positive 32 (r .prices) ≡ aboveZero r
+  pub above-here : length (r .prices) ≡ 32 → positive 32 (r .prices) ≡ aboveZero r
   unfolding aboveZero
   above-here e = positive-narrow (r .items) (r .prices) (items-range r (t .counts) .1) (λ k l. go k l (lt-or-le k 32))
     where

@@ -1,6 +1,6 @@
 -- Reading the close of a record: document 01, "The live letting" and "Order". Assumes nothing: these are definitions.
 use Prim.Native.Nat.{ℕ, zero, suc}
-use mathlib.Core.Bool.{not}
+use mathlib.Core.Bool.{Bool, not}
 use mathlib.Core.List.{List, [], _∷_}
 use lib.Dec.{ltb}
 use lib.ListN.{length}
@@ -13,12 +13,16 @@ use Rattle.live.specs.declared.Auction.{Auction}
 
 -- ---- read the close: 11, 15, 3
 
+-- 3: too few bytes for the closing sheet
+abbrev pub tooFew : Auction → List ℕ → Bool
+tooFew r out = ltb (length out) (closingLength (r .items) (r .bidders))
+
 unfoldable pub readNumber : Auction → List ℕ → ℕ
 readNumber r out =
     first
     (on 11 (not (wellFormed r))
     ∷ on 15 (not (isClosed (r .phase)))
-    ∷ on 3 (ltb (length out) (closingLength (r .items) (r .bidders)))
+    ∷ on 3 (tooFew r out)
     ∷ [])
 
 -- the names: the first assignment in order, by the reports at the close

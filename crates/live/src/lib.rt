@@ -1,7 +1,7 @@
 // The live auction (document 01: the live letting): the record, and what a call on it hands back.
 
 ghost use mathlib.Core.Path.{_≡_};
-ghost use mathlib.Core.Bool.{Bool, true, false, _&&_, _||_, not};
+ghost use mathlib.Core.Bool.{Bool, true, false, _&&_, _||_, not, cond};
 ghost use Prim.Native.Nat.{ℕ, suc, _+_, _*_, _≤_, _<_};
 ghost use mathlib.Core.List.{List};
 ghost use lib.Dec.{leb, ltb, eqb};
@@ -12,6 +12,7 @@ ghost use Rattle.sets.specs.Lists.{places};
 ghost use Rattle.rule.specs.Sheet.{amount, priceSum};
 ghost use Rattle.rule.specs.Demand.{Demand};
 ghost use Rattle.rule.specs.Refusal.{anyOver};
+ghost use Rattle.lines.specs.Lines.{writtenTo};
 ghost use Rattle.live.specs.Auction.{place, hasReported, isEmpty, beyond, unfit, countsFit, pricesFit, unusedPrices, unusedPlaces, unusedBits, reportedFit, othersEmpty, missing, roundsFit, closeFits, risingSet, fallingSet, wellFormed};
 ghost use Rattle.live.specs.Calls.{zeros, unopened, openAuction, cleared, withReport, saying, isClosed, reportNumber, report, clearNumber, clear, atTop, settled, endingOf, endAnswer, endNext};
 ghost use Rattle.rule.specs.Round.{raised, lowered, closed};
@@ -19,6 +20,7 @@ ghost use Rattle.live.specs.declared.Phase.the-variants.{Rising, Falling
 ghost use Rattle.live.specs.declared.Kind.the-variants.{Raised, Lowered};
 ghost use Rattle.live.specs.declared.Ended.the-variants.{Moved, Refused};
 ghost use Rattle.live.specs.declared.Ended.the-variants.{Closed as Closes};
+ghost use Rattle.live.specs.Reading.{tooFew, namesOf, sheetOf, readNumber, readBytes};
 ghost use Rattle.live.specs.Tidy.{Tidy, Ready, Calm};
 
 // document 01: rising, falling, closed
@@ -654,5 +656,56 @@ impl Auction {
             Phase::Falling => self.ended_falling(set),
             Phase::Closed => self.stopped(12),
         }
+    }
+
+    // the names at the close, and zeros past the last bidder
+    fn names(self) -> [u8; 64]
+        requires { ⌜ Tidy self ⌝ }
+        ensures { λ r. ⌜ r ≡ places 64 (namesOf self) ⌝ }
+    {
+        let sets = self.sets;
+        let prices = self.prices;
+        assignment::first(
+            &sets,
+            self.nulls,
+            round::positive(&prices),
+            self.bidders as u32,
+        )
+    }
+
+    // writes the closing sheet's three lines to the front of the bytes, unless they are too few
+    fn written(self, out: &mut [u8]) -> bool
+        requires { ⌜ Tidy self ⌝ }
+        ensures { λ r. ⌜ (r ≡ not (tooFew self (now (out .entry)))) × (now (out .exit) ≡ cond (tooFew self (now (out .entry))) (now (out .entry)) (writtenTo (now (out .entry)) (sheetOf self))) ⌝ }
+    {
+        let names = self.names();
+        let prices = self.prices;
+        let items = self.items as u32;
+        let bidders = self.bidders as u32;
+        lines::write_closing(
+            out,
+            items,
+            bidders,
+            self.raised,
+            self.lowered,
+            &prices,
+            &names,
+        )
+    }
+
+    // reads the close, three lines: 11, 15, 3
+    pub fn read(self, out: &mut [u8]) -> u8
+        ensures { λ r. ⌜ (r ≡ readNumber self (now (out .entry))) × (now (out .exit) ≡ readBytes self (now (out .entry))) ⌝ }
+    {
+        if !self.well_formed() {
+            return 11;
+        }
+        if !self.is_closed() {
+            return 15;
+        }
+        if !self.written(out) {
+            return 3;
+        }
+        0
     }
 }

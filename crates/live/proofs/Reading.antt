@@ -1,0 +1,109 @@
+-- The ways of a read: the names and the sheet of a record whose unused places and bits are zero, and the number. Assumes nothing.
+use Prim.Native.Nat.{ℕ, zero, suc, _+_, _*_, _≤_, _<_}
+use mathlib.Core.Path.{_≡_, refl, sym, ap, _∙_}
+use mathlib.Core.Bool.{Bool, true, false, _&&_, not, cond}
+use mathlib.Core.List.{List, [], _∷_}
+use mathlib.Core.Logic.{_⊎_, inl, inr}
+use native.Mathlib.Omega.{arith}
+use lib.Dec.{leb, ltb}
+use lib.ListN.{length, getD}
+use borrow.Author.Tests.{le-leb, lt-leb, lt-ltb, le-ltb}
+use Rattle.sets.specs.Lists.{places}
+use Rattle.sets.proofs.Bits.{lt-or-le}
+use Rattle.sets.proofs.Lists.{places-at}
+use Rattle.sets.proofs.Members.{setOf-lt}
+use Rattle.rule.specs.Excess.{positive}
+use Rattle.rule.specs.Assignment.{assignment}
+use Rattle.rule.specs.Refusal.{Refusal, on, first}
+use Rattle.rule.proofs.Refusal.{passed, given}
+use Rattle.round.specs.Reports.{reports}
+use Rattle.assignment.specs.Assigned.{assigned}
+use Rattle.assignment.proofs.Unfit.{assigned-is}
+use Rattle.assignment.proofs.Narrowing.{assignment-narrow}
+use Rattle.lines.specs.Lines.{closingSheet, closingLength, writtenTo, writes, afterClosing}
+use Rattle.lines.proofs.Same.{sheet-same}
+use Rattle.live.specs.Auction.{aboveZero, reportsOf, wellFormed}
+use Rattle.live.specs.Calls.{isClosed}
+use Rattle.live.specs.Reading.{tooFew, namesOf, sheetOf, readNumber, readBytes}
+use Rattle.live.specs.Tidy.{Tidy}
+use Rattle.live.specs.declared.Auction.{Auction}
+use Rattle.live.proofs.Formed.{items-range, bidders-range}
+use Rattle.live.proofs.Sets.{Sets, above-here, reported}
+
+module _ (r : Auction) (t : Tidy r) where
+  -- ---- the names
+
+  pub names-here : Sets (r .sets) → length (r .prices) ≡ 32 → (above : ℕ) → above ≡ positive 32 (r .prices) → assigned (r .sets) (r .nulls) above (r .bidders) ≡ places 64 (namesOf r)
+  unfolding namesOf reportsOf
+  names-here s e above q =
+      ap (λ (x : ℕ). assigned (r .sets) (r .nulls) x (r .bidders)) (q ∙ above-here r t e)
+      ∙ sym (assigned-is (r .sets) (r .nulls) (aboveZero r) (r .bidders) (bidders-range r (t .counts) .1))
+      ∙ ap (places 64) (assignment-narrow (r .items) (r .bidders) (r .sets) (reported r t s) (r .nulls) (aboveZero r) (unfold aboveZero positive in setOf-lt (r .items) _))
+
+  -- ---- the sheet
+
+  sheet-here : closingSheet (r .items) (r .bidders) (r .raised) (r .lowered) (r .prices) (places 64 (namesOf r)) ≡ sheetOf r
+  unfolding sheetOf
+  sheet-here =
+      let most = bidders-range r (t .counts) .1 in
+      sheet-same (r .items) (r .bidders) (r .raised) (r .lowered) (r .prices) (r .prices) (places 64 (namesOf r)) (namesOf r)
+      (λ k l. refl) (λ b l. places-at 64 (namesOf r) b (omega (arith, l, most)))
+
+  writes-here : (out : List ℕ) → writes (r .items) (r .bidders) (length out) ≡ not (tooFew r out)
+  unfolding writes
+  writes-here out =
+      ap (λ (x : Bool). x && leb (r .bidders) 64 && leb (closingLength (r .items) (r .bidders)) (length out)) (le-leb (r .items) 32 (items-range r (t .counts) .1))
+      ∙ ap (λ (x : Bool). x && leb (closingLength (r .items) (r .bidders)) (length out)) (le-leb (r .bidders) 64 (bidders-range r (t .counts) .1))
+      ∙ go (lt-or-le (length out) (closingLength (r .items) (r .bidders)))
+    where
+      go : (length out < closingLength (r .items) (r .bidders)) ⊎ (closingLength (r .items) (r .bidders) ≤ length out)
+          → leb (closingLength (r .items) (r .bidders)) (length out) ≡ not (ltb (length out) (closingLength (r .items) (r .bidders)))
+      go (inl l) = lt-leb (closingLength (r .items) (r .bidders)) (length out) l ∙ sym (ap not (lt-ltb (length out) (closingLength (r .items) (r .bidders)) l))
+      go (inr l) = le-leb (closingLength (r .items) (r .bidders)) (length out) l ∙ sym (ap not (le-ltb (length out) (closingLength (r .items) (r .bidders)) l))
+
+  pub told : (out : List ℕ) (b : Bool) → b ≡ writes (r .items) (r .bidders) (length out) → b ≡ not (tooFew r out)
+  told out b e = e ∙ writes-here out
+
+  pub left : (out options after : List ℕ) → options ≡ places 64 (namesOf r)
+      → after ≡ afterClosing (r .items) (r .bidders) (r .raised) (r .lowered) (r .prices) options out → after ≡ cond (tooFew r out) out (writtenTo out (sheetOf r))
+  unfolding afterClosing
+  left out options after q e =
+      e ∙ ap (λ (x : List ℕ). cond (writes (r .items) (r .bidders) (length out)) (writtenTo out (closingSheet (r .items) (r .bidders) (r .raised) (r .lowered) (r .prices) x)) out) q
+      ∙ ap (λ (x : List ℕ). cond (writes (r .items) (r .bidders) (length out)) (writtenTo out x) out) sheet-here
+      ∙ ap (λ (b : Bool). cond b (writtenTo out (sheetOf r)) out) (writes-here out) ∙ turned (tooFew r out)
+    where
+      turned : (b : Bool) → cond (not b) (writtenTo out (sheetOf r)) out ≡ cond b out (writtenTo out (sheetOf r))
+      turned true = refl
+      turned false = refl
+
+-- ---- the number, and the bytes
+
+module _ (r : Auction) (out : List ℕ) where
+  refused-by : (x : ℕ) → suc x ≡ readNumber r out → (suc x ≡ readNumber r out) × (out ≡ readBytes r out)
+  unfolding readBytes
+  refused-by x e = (e, ap (λ (y : ℕ). elim y [ zero ↦ writtenTo out (sheetOf r) | suc j ↦ out ]) e)
+
+  pub read-11 : wellFormed r ≡ false → (11 ≡ readNumber r out) × (out ≡ readBytes r out)
+  read-11 e = refused-by 10 (unfold readNumber in sym (given 11 (not (wellFormed r)) _ (ap not e)))
+
+  module _ (w : wellFormed r ≡ true) where
+    pub read-15 : isClosed (r .phase) ≡ false → (15 ≡ readNumber r out) × (out ≡ readBytes r out)
+    read-15 e = refused-by 14 (unfold readNumber in sym (passed 11 (not (wellFormed r)) _ (ap not w) ∙ given 15 (not (isClosed (r .phase))) _ (ap not e)))
+
+    module _ (c : isClosed (r .phase) ≡ true) where
+      last : first (on 3 (tooFew r out) ∷ []) ≡ readNumber r out
+      unfolding readNumber
+      last = sym (passed 11 (not (wellFormed r)) _ (ap not w) ∙ passed 15 (not (isClosed (r .phase))) _ (ap not c))
+
+      pub read-3 : (after : List ℕ) → after ≡ cond (tooFew r out) out (writtenTo out (sheetOf r)) → tooFew r out ≡ true → (3 ≡ readNumber r out) × (after ≡ readBytes r out)
+      read-3 after q e =
+          let p = refused-by 2 (sym (given 3 (tooFew r out) [] e) ∙ last) in
+          (p .0, q ∙ ap (λ (b : Bool). cond b out (writtenTo out (sheetOf r))) e ∙ p .1)
+
+      pub read-on : (after : List ℕ) → after ≡ cond (tooFew r out) out (writtenTo out (sheetOf r)) → tooFew r out ≡ false → (0 ≡ readNumber r out) × (after ≡ readBytes r out)
+      unfolding readBytes
+      read-on after q e =
+          let z : 0 ≡ readNumber r out = sym (passed 3 (tooFew r out) [] e ∙ (unfold first in refl)) ∙ last in (
+            z,
+            q ∙ ap (λ (b : Bool). cond b out (writtenTo out (sheetOf r))) e ∙ ap (λ (y : ℕ). elim y [ zero ↦ writtenTo out (sheetOf r) | suc j ↦ out ]) z,
+          )
