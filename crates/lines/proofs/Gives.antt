@@ -17,6 +17,9 @@ use Rattle.lines.proofs.Stands.{Stands, there, beyond, one}
 pub gives : {A B : Type 0} (o : Option A) (f : A → Option B) (a : A) → o ≡ some a → o >>= f ≡ f a
 gives o f a e = ap (λ x. x >>= f) e
 
+pub stops : {A B : Type 0} (o : Option A) (f : A → Option B) → o ≡ none → o >>= f ≡ none
+stops o f e = ap (λ x. x >>= f) e
+
 pub gave : {A B : Type 0} (o : Option A) (f : A → Option B) (b : B) → o >>= f ≡ some b → (a : A) × (o ≡ some a) × (f a ≡ some b)
 gave none f b e = absurd (Option·none-ne-some b e)
 gave (some a) f b e = (a, refl, e)

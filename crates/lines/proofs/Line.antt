@@ -11,7 +11,7 @@ use lib.ListN.{length, getD, List·getD-eq-default}
 use borrow.Author.Tests.{eq-eqb, eqb-true}
 use Rattle.sets.specs.Lists.{tabulate}
 use Rattle.lines.specs.Lines.{hex, newline, joined}
-use Rattle.lines.specs.Reading.{_>>=_, numbersAt, endsAt, lineAt}
+use Rattle.lines.specs.Reading.{numbersAt, endsAt, lineAt}
 use Rattle.lines.proofs.Lengths.{hex-length, joined-length}
 use Rattle.lines.proofs.Stands.{Stands, front, back, both, one}
 use Rattle.lines.proofs.Gives.{gives, gave}

@@ -33,7 +33,7 @@ module _ (m n ups downs : ℕ) (prices options out : List ℕ) where
   unfolding afterClosing
   unchanged e = ap (λ (t : Bool). cond t (writtenTo out (closingSheet m n ups downs prices options)) out) (sym e)
 
-  changed : writes m n (length out) ≡ true → writtenTo out (closingSheet m n ups downs prices options) ≡ afterClosing m n ups downs prices options out
+  pub changed : writes m n (length out) ≡ true → writtenTo out (closingSheet m n ups downs prices options) ≡ afterClosing m n ups downs prices options out
   unfolding afterClosing
   changed e = ap (λ (t : Bool). cond t (writtenTo out (closingSheet m n ups downs prices options)) out) (sym e)
 
