@@ -7,6 +7,7 @@ use native.Mathlib.Omega.{arith}
 use native.Mathlib.Decide.{decLe}
 use lib.ListN.{length}
 use Rattle.rule.specs.Sheet.{amount, Sheet}
+use Rattle.rule.specs.Demand.{Demand}
 use Rattle.rule.specs.Excess.{excessDemand, excessSupply, positive}
 use Rattle.rule.specs.Round.{Phase, rising, falling, Round, raised, lowered, closed, State, move, roundAt, round, after, opening, path, close, raise, lower}
 use Rattle.rule.specs.Closing.{demandsAt, excessDemandAt, excessSupplyAt, roundOf, phaseAfter, Closing}
@@ -24,11 +25,17 @@ lowered-closed x e = let z : _≡_ {A = ℕ} 0 1 = cc in omega arith
 not-falling : rising ≡ falling → ⊥
 not-falling e = let z : _≡_ {A = ℕ} 0 1 = cc in omega arith
 
+-- the items that a round moves
+abbrev pub movedBy : Round → ℕ
+movedBy (raised x) = x
+movedBy (lowered x) = x
+movedBy closed = 0
+
 one-more : (d : ℕ) → suc d ≡ d + 1
 one-more d = omega arith
 
--- a raised set that is not that of a rising phase
-raised-rising : (m above : ℕ) (ph : Phase) (ds : List _) (x : ℕ) → round m above ds ph ≡ raised x → ph ≡ rising
+-- a round raises only while rising
+raised-rising : (m above : ℕ) (ph : Phase) (ds : List Demand) (x : ℕ) → round m above ds ph ≡ raised x → ph ≡ rising
 raised-rising m above ph ds x e = go (takes m above ds ph)
   where
     go : Takes m above ds ph → ph ≡ rising
@@ -53,25 +60,20 @@ module _ (s : Sheet) where
   rising-at k x e = raised-rising m (positive m (path s k .prices)) (path s k .phase) (demandsAt s (path s k .prices)) x e
 
   -- what a round moves is a set of the sheet's items
-  pub raised-small : (k x : ℕ) → roundOf s k ≡ raised x → x < 2 ^ m
+  pub moved-small : (k : ℕ) (r : Round) → roundOf s k ≡ r → movedBy r < 2 ^ m
   unfolding roundAt
-  raised-small k x e = go (takes m (positive m (path s k .prices)) (demandsAt s (path s k .prices)) (path s k .phase))
+  moved-small k r e = subst (λ (y : Round). movedBy y < 2 ^ m) e (go (takes m above ds (path s k .phase)))
     where
-      go : Takes m (positive m (path s k .prices)) (demandsAt s (path s k .prices)) (path s k .phase) → x < 2 ^ m
-      go (raises q ne r) = let z : excessDemandAt s (path s k .prices) ≡ x = cc in subst (λ (y : ℕ). y < 2 ^ m) z (demand-bound m (demandsAt s (path s k .prices)))
-      go (lowers h ne r) = absurd (let z : _≡_ {A = ℕ} 0 1 = cc in omega arith)
-      go (closes h f r) = absurd (let z : _≡_ {A = ℕ} 0 1 = cc in omega arith)
+      above : ℕ
+      above = positive m (path s k .prices)
 
-  pub lowered-small : (k x : ℕ) → roundOf s k ≡ lowered x → x < 2 ^ m
-  unfolding roundAt
-  lowered-small k x e = go (takes m (positive m (path s k .prices)) (demandsAt s (path s k .prices)) (path s k .phase))
-    where
-      go : Takes m (positive m (path s k .prices)) (demandsAt s (path s k .prices)) (path s k .phase) → x < 2 ^ m
-      go (raises q ne r) = absurd (let z : _≡_ {A = ℕ} 0 1 = cc in omega arith)
-      go (lowers h ne r) =
-          let z : excessSupplyAt s (path s k .prices) ≡ x = cc in
-          subst (λ (y : ℕ). y < 2 ^ m) z (supply-bound m (positive m (path s k .prices)) (demandsAt s (path s k .prices)))
-      go (closes h f r) = absurd (let z : _≡_ {A = ℕ} 0 1 = cc in omega arith)
+      ds : List Demand
+      ds = demandsAt s (path s k .prices)
+
+      go : Takes m above ds (path s k .phase) → movedBy (round m above ds (path s k .phase)) < 2 ^ m
+      go (raises q ne e) = subst (λ (y : Round). movedBy y < 2 ^ m) (sym e) (demand-bound m ds)
+      go (lowers h ne e) = subst (λ (y : Round). movedBy y < 2 ^ m) (sym e) (supply-bound m above ds)
+      go (closes h f e) = subst (λ (y : Round). movedBy y < 2 ^ m) (sym e) (omega (arith, demand-bound m ds))
 
   -- what holds at the start and is kept by each round holds along the path
   along : (P : State → Type 0) → P (opening (s .start)) → ((k : ℕ) (r : Round) → roundOf s k ≡ r → P (path s k) → P (move m (path s k) r)) → (k : ℕ) → P (path s k)

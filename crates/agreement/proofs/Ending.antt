@@ -5,7 +5,7 @@ use mathlib.Core.Bool.{Bool, true, false, _&&_, not}
 use mathlib.Core.List.{List, [], _∷_}
 use native.Mathlib.Omega.{arith}
 use lib.Dec.{eqb}
-use lib.ListN.{length}
+use lib.ListN.{length, replicate}
 use borrow.Author.Tests.{eqb-true, eq-eqb}
 use borrow.Author.Tests.{not-true as not-true-is}
 use Rattle.sets.specs.Count.{anyBelow}
@@ -31,7 +31,8 @@ use Rattle.live.proofs.Parts.{by-parts}
 use Rattle.agreement.specs.Calls.{ending, ended, Answered, call}
 use Rattle.agreement.specs.Machine.{Machine, none, at, phaseOf, phase, saidAll, isMissing, demandsStand, answers, machineEndNumber, next, turned, machineEnd, machine}
 use Rattle.agreement.specs.Agreement.{standsFor}
-use Rattle.agreement.proofs.Along.{raised-closed, lowered-closed, step-by, rising-at, raised-small, lowered-small, phase-is, long-along, falling-calm}
+use Rattle.agreement.proofs.Along.{raised-closed, lowered-closed, step-by, rising-at, moved-small, phase-is, long-along, falling-calm}
+use Rattle.agreement.proofs.Bools.{and-right-false}
 use Rattle.agreement.proofs.Numbers.{first-same, first-nil}
 use Rattle.agreement.proofs.Standing.{said-demands, none-missing, closed-stands, reports-is, missing-is, above-is, rising-is, top-is}
 use Rattle.agreement.proofs.Follows.{Good, Follows, no-nulls, no-reported, no-sets}
@@ -61,10 +62,6 @@ ruled-is : (d : ℕ) → ruled (phaseOf false d) ≡ phaseAfter d
 unfolding phaseOf
 ruled-is zero = refl
 ruled-is (suc d) = refl
-
-and-false : (a b : Bool) → b ≡ false → a && b ≡ false
-and-false true b e = e
-and-false false b e = refl
 
 module _ (s : Sheet) (lim : Limits s) (c : Closing s) (t : Machine) (g : Good s t) (w : wellFormed (standsFor s t) ≡ true) where
   abbrev m : ℕ
@@ -139,7 +136,7 @@ module _ (s : Sheet) (lim : Limits s) (c : Closing s) (t : Machine) (g : Good s 
 
   not-seventeen : demandsStand s t ≡ true → isRising (phase s t) && atTop m (at s t .prices) found ≡ false
   not-seventeen h =
-      and-false (isRising (phase s t)) (atTop m (at s t .prices) found)
+      and-right-false (isRising (phase s t)) (atTop m (at s t .prices) found)
       (ap (λ (ds : List Demand). atTop m (at s t .prices) (excessDemand m ds)) (said-demands s t h) ∙ (unfold at in top-never))
 
   no-number : t .hasClosed ≡ false → demandsStand s t ≡ true → machineEndNumber s t ≡ 0
@@ -180,35 +177,40 @@ module _ (s : Sheet) (lim : Limits s) (c : Closing s) (t : Machine) (g : Good s 
   good-closed : demandsStand s t ≡ true → roundOf s (t .moves) ≡ closed → Good s closed-now
   good-closed h e = record { not-before = g .not-before; at-close = λ q. (unfold demandsStand at in h, e) }
 
-  raised-record : (x : ℕ) → t .hasClosed ≡ false → roundOf s (t .moves) ≡ raised x → settled (standsFor s t) (raised x) ≡ standsFor s moved-on
-  unfolding settled standsFor at phase
-  raised-record x o e =
-      by-parts (settled (standsFor s t) (raised x)) (standsFor s moved-on)
-      refl refl (raise-places m (lim .max-items) (now .prices) (long-along s (lim .start .long) (t .moves)) x (raised-small s (t .moves) x e) ∙ ap (λ (q : State). places 32 (q .prices)) (sym after))
-      no-sets no-nulls no-reported phases′ (ap (λ (q : State). q .ups) (sym after)) (ap (λ (q : State). q .downs) (sym after))
-    where
-      after : path s (suc (t .moves)) ≡ record { phase = rising; prices = raise m (now .prices) x; ups = now .ups + 1; downs = now .downs }
-      after = step-by s (t .moves) (raised x) e ∙ (unfold move in refl)
+  -- the record of a move, from the path's state after it
+  moved-record : (q : State) (p : List ℕ) (ph : Phase) → path s (suc (t .moves)) ≡ q → t .hasClosed ≡ false → p ≡ places 32 (q .prices) → ph ≡ phaseOf false (q .downs)
+      → record {
+        items = m;
+        bidders = length (s .bids);
+        prices = p;
+        sets = replicate 64 0;
+        nulls = 0;
+        reported = 0;
+        phase = ph;
+        raised = q .ups;
+        lowered = q .downs;
+      } ≡ standsFor s moved-on
+  unfolding standsFor at phase
+  moved-record q p ph after o prices phases =
+      by-parts _ (standsFor s moved-on) refl refl (prices ∙ ap (λ (z : State). places 32 (z .prices)) (sym after)) no-sets no-nulls no-reported
+      (phases ∙ ap (λ (z : State). phaseOf false (z .downs)) (sym after) ∙ ap (λ (b : Bool). phaseOf b (path s (suc (t .moves)) .downs)) (sym o))
+      (ap (λ (z : State). z .ups) (sym after)) (ap (λ (z : State). z .downs) (sym after))
 
-      phases′ : Rising ≡ phaseOf (t .hasClosed) (path s (suc (t .moves)) .downs)
-      phases′ =
-          no-downs (now .downs) (sym (rising-at s (t .moves) x e) ∙ phase-is s (t .moves)) ∙ ap (phaseOf false) (sym (ap (λ (q : State). q .downs) after))
-          ∙ ap (λ (b : Bool). phaseOf b (path s (suc (t .moves)) .downs)) (sym o)
+  long : length (now .prices) ≡ m
+  long = long-along s (lim .start .long) (t .moves)
+
+  raised-record : (x : ℕ) → t .hasClosed ≡ false → roundOf s (t .moves) ≡ raised x → settled (standsFor s t) (raised x) ≡ standsFor s moved-on
+  unfolding settled standsFor at move
+  raised-record x o e =
+      moved-record (move m now (raised x)) (raise 32 (places 32 (now .prices)) x) Rising (step-by s (t .moves) (raised x) e) o
+      (raise-places m (lim .max-items) (now .prices) long x (moved-small s (t .moves) (raised x) e))
+      (no-downs (now .downs) (sym (rising-at s (t .moves) x e) ∙ phase-is s (t .moves)))
 
   lowered-record : (x : ℕ) → t .hasClosed ≡ false → roundOf s (t .moves) ≡ lowered x → settled (standsFor s t) (lowered x) ≡ standsFor s moved-on
-  unfolding settled standsFor at phase
+  unfolding settled standsFor at move
   lowered-record x o e =
-      by-parts (settled (standsFor s t) (lowered x)) (standsFor s moved-on)
-      refl refl (lower-places m (lim .max-items) (now .prices) (long-along s (lim .start .long) (t .moves)) x (lowered-small s (t .moves) x e) ∙ ap (λ (q : State). places 32 (q .prices)) (sym after))
-      no-sets no-nulls no-reported phases′ (ap (λ (q : State). q .ups) (sym after)) (ap (λ (q : State). q .downs) (sym after))
-    where
-      after : path s (suc (t .moves)) ≡ record { phase = falling; prices = lower m (now .prices) x; ups = now .ups; downs = now .downs + 1 }
-      after = step-by s (t .moves) (lowered x) e ∙ (unfold move in refl)
-
-      phases′ : Falling ≡ phaseOf (t .hasClosed) (path s (suc (t .moves)) .downs)
-      phases′ =
-          falling-phase (now .downs) ∙ ap (phaseOf false) (sym (ap (λ (q : State). q .downs) after))
-          ∙ ap (λ (b : Bool). phaseOf b (path s (suc (t .moves)) .downs)) (sym o)
+      moved-record (move m now (lowered x)) (lower 32 (places 32 (now .prices)) x) Falling (step-by s (t .moves) (lowered x) e) o
+      (lower-places m (lim .max-items) (now .prices) long x (moved-small s (t .moves) (lowered x) e)) (falling-phase (now .downs))
 
   closed-record : settled (standsFor s t) closed ≡ standsFor s closed-now
   unfolding settled standsFor at phase phaseOf

@@ -15,18 +15,7 @@ use Rattle.rule.specs.Refusal.{badItems, badBidders, anyOver}
 use Rattle.live.specs.Auction.{place, hasReported, isEmpty, beyond, unfit, countsFit, pricesFit, unusedPrices, unusedPlaces, unusedBits, reportedFit, othersEmpty, roundsFit, closeFits, wellFormed}
 use Rattle.live.specs.declared.Auction.{Auction}
 use Rattle.live.specs.declared.Phase.{Phase}
-
-pub or-left-false : (a b : Bool) → a || b ≡ false → a ≡ false
-or-left-false false b e = refl
-or-left-false true b e = e
-
-pub or-right-false : (a b : Bool) → a || b ≡ false → b ≡ false
-or-right-false false b e = e
-or-right-false true b e = absurd (not-both true refl e)
-
-pub or-both-false : (a b : Bool) → a ≡ false → b ≡ false → a || b ≡ false
-or-both-false false b e h = h
-or-both-false true b e h = e
+use Rattle.agreement.proofs.Bools.{or-left-false, or-right-false, or-both-false}
 
 -- a count in its range
 pub in-range : (top x : ℕ) → ltb x 1 || ltb top x ≡ false → (1 ≤ x) × (x ≤ top)

@@ -11,7 +11,7 @@ use lib.Seq.{getD-set-same, getD-set-other}
 use borrow.Author.Tests.{eqb-true, leb-true, le-leb, eq-eqb, ne-eqb}
 use Rattle.sets.specs.Count.{anyBelow}
 use Rattle.sets.specs.Bit.{has, setOf}
-use Rattle.sets.proofs.Counting.{and-left, and-right, any-use, is-false, not-both, not-is}
+use Rattle.sets.proofs.Counting.{and-left, and-right, or-right, any-use, is-false, not-both, not-is}
 use Rattle.sets.proofs.Members.{has-setOf, empty-has}
 use Rattle.rule.specs.Sheet.{amount, priceSum}
 use Rattle.rule.specs.Demand.{Demand}
@@ -20,7 +20,8 @@ use Rattle.live.specs.Calls.{isClosed, withReport, cleared}
 use Rattle.live.specs.declared.Auction.{Auction}
 use Rattle.live.specs.declared.Phase.{Phase}
 use Rattle.live.specs.declared.Phase.the-variants.{Rising, Falling, Closed}
-use Rattle.agreement.proofs.Formed.{or-right-false, Formed}
+use Rattle.agreement.proofs.Bools.{or-false, or-right-false, and-true, and-right-false}
+use Rattle.agreement.proofs.Formed.{Formed}
 
 -- ---- rounds and close of two records
 
@@ -106,18 +107,6 @@ module _ (r : Auction) (long : length (r .sets) ≡ 64) (f : Formed r) (b : ℕ)
   abbrev nullsNow : ℕ → Bool
   nullsNow i = has (r .nulls) i || (d .null && eqb i b)
 
-  and-true : (x : Bool) → x && true ≡ x
-  and-true true = refl
-  and-true false = refl
-
-  and-false : (x : Bool) → x && false ≡ false
-  and-false true = refl
-  and-false false = refl
-
-  or-false : (x : Bool) → x || false ≡ x
-  or-false true = refl
-  or-false false = refl
-
   place-same : (k : ℕ) → k < 64 → suc k ≡ b → place next k ≡ d
   unfolding place withReport
   place-same k l e =
@@ -134,7 +123,7 @@ module _ (r : Auction) (long : length (r .sets) ≡ 64) (f : Formed r) (b : ℕ)
   place-other k l ne =
       let a : has (setOf 64 nullsNow) (suc k) ≡ has (r .nulls) (suc k) =
       has-setOf 64 nullsNow k l ∙ ap (λ (x : Bool). has (r .nulls) (suc k) || (d .null && x)) (ne-eqb (suc k) b ne)
-      ∙ ap (λ (x : Bool). has (r .nulls) (suc k) || x) (and-false (d .null)) ∙ or-false (has (r .nulls) (suc k)) in
+      ∙ ap (λ (x : Bool). has (r .nulls) (suc k) || x) (and-right-false (d .null) false refl) ∙ or-false (has (r .nulls) (suc k)) in
       let c : getD (set (r .sets) (b - 1) (d .items)) k 0 ≡ getD (r .sets) k 0 = getD-set-other (r .sets) (b - 1) k (d .items) 0 (λ q. ne (omega arith)) in
       ap (λ (x : Bool). record { null = x; items = getD (set (r .sets) (b - 1) (d .items)) k 0 }) a ∙ ap (λ (x : ℕ). record { null = has (r .nulls) (suc k); items = x }) c
 
@@ -149,11 +138,7 @@ module _ (r : Auction) (long : length (r .sets) ≡ 64) (f : Formed r) (b : ℕ)
   reported-same : (k : ℕ) → k < 64 → suc k ≡ b → hasReported next (suc k) ≡ true
   unfolding hasReported withReport
   reported-same k l e =
-      has-setOf 64 (λ i. has (r .reported) i || eqb i b) k l ∙ ap (λ (x : Bool). has (r .reported) (suc k) || x) (eq-eqb (suc k) b e) ∙ or-true (has (r .reported) (suc k))
-    where
-      or-true : (x : Bool) → x || true ≡ true
-      or-true true = refl
-      or-true false = refl
+      has-setOf 64 (λ i. has (r .reported) i || eqb i b) k l ∙ ap (λ (x : Bool). has (r .reported) (suc k) || x) (eq-eqb (suc k) b e) ∙ or-right (has (r .reported) (suc k)) true refl
 
   within : (k : ℕ) → k < 64 → Dec (suc k ≡ b) → beyond (r .items) (place next k) ≡ false
   within k l (yes e) = ap (beyond (r .items)) (place-same k l e) ∙ beyond-fit

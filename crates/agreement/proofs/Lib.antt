@@ -1,3 +1,4 @@
+pub mod Bools
 pub mod Numbers
 pub mod Formed
 pub mod Rounds
@@ -13,3 +14,5 @@ pub mod Ending
 pub mod Reading
 pub mod Counted
 pub mod Agreement
+pub mod Endings
+pub mod Example

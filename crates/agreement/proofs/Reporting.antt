@@ -23,23 +23,12 @@ use Rattle.live.proofs.Parts.{by-parts}
 use Rattle.agreement.specs.Calls.{reporting, clearing, call}
 use Rattle.agreement.specs.Machine.{Standing, none, stands, Machine, at, phase, doesStand, said, tells, machine, machineReport, machineClear}
 use Rattle.agreement.specs.Agreement.{standsFor}
+use Rattle.agreement.proofs.Bools.{or-false, and-true, and-right-false}
 use Rattle.agreement.proofs.Formed.{in-range}
 use Rattle.agreement.proofs.Lists.{tabulate-same, tabulate-set}
 use Rattle.agreement.proofs.Numbers.{first-same, first-none}
 use Rattle.agreement.proofs.Standing.{closed-stands, reported-is}
 use Rattle.agreement.proofs.Follows.{Good, Follows, replies, no-nulls, no-reported, no-sets}
-
-or-false : (a : Bool) → a || false ≡ a
-or-false true = refl
-or-false false = refl
-
-and-true : (a : Bool) → a && true ≡ a
-and-true true = refl
-and-true false = refl
-
-and-false : (a : Bool) → a && false ≡ false
-and-false true = refl
-and-false false = refl
 
 -- one more report stands, and none stands
 abbrev with : Machine → ℕ → Demand → Machine
@@ -132,7 +121,7 @@ module _ (s : Sheet) (t : Machine) (g : Good s t) (w : wellFormed (standsFor s t
         go true q =
             let z : t .standing i ≡ none = ap (t .standing) (eqb-true i b q) ∙ e in
             ap (λ (y : Standing). said y .null || (d .null && true)) z ∙ (unfold said in and-true (d .null))
-        go false q = ap (λ (y : Bool). said (t .standing i) .null || y) (and-false (d .null)) ∙ or-false (said (t .standing i) .null)
+        go false q = ap (λ (y : Bool). said (t .standing i) .null || y) (and-right-false (d .null) false refl) ∙ or-false (said (t .standing i) .null)
 
     stand-at : (i : ℕ) → doesStand (t .standing i) || eqb i b ≡ doesStand (cond (eqb i b) (stands d) (t .standing i))
     stand-at i = go (eqb i b)

@@ -67,15 +67,20 @@ pub rising-make : (r : Auction) → r .lowered ≡ 0 → r .raised ≤ priceSum 
 unfolding roundsFit
 rising-make r a b = and-both (eqb (r .lowered) 0) (leb (r .raised) (total r)) (eq-eqb (r .lowered) 0 a) (le-leb (r .raised) (total r) b)
 
-falling-make : (r : Auction) → r .raised ≤ 4095 * r .items → priceSum (r .items) (r .prices) + r .lowered ≤ 4095 * r .items → roundsFit Falling r ≡ true
+-- falling or closed
+late-make : (ph : Phase) (r : Auction) → isRising ph ≡ false → r .raised ≤ 4095 * r .items → priceSum (r .items) (r .prices) + r .lowered ≤ 4095 * r .items → roundsFit ph r ≡ true
 unfolding roundsFit
-falling-make r a b =
-    and-both (leb (r .raised) (4095 * r .items)) (leb (total r + r .lowered) (4095 * r .items)) (le-leb (r .raised) (4095 * r .items) a) (le-leb (total r + r .lowered) (4095 * r .items) b)
+late-make ph r o a b = go ph o
+  where
+    both : leb (r .raised) (4095 * r .items) && leb (total r + r .lowered) (4095 * r .items) ≡ true
+    both =
+        and-both (leb (r .raised) (4095 * r .items)) (leb (total r + r .lowered) (4095 * r .items)) (le-leb (r .raised) (4095 * r .items) a)
+        (le-leb (total r + r .lowered) (4095 * r .items) b)
 
-closed-make : (r : Auction) → r .raised ≤ 4095 * r .items → priceSum (r .items) (r .prices) + r .lowered ≤ 4095 * r .items → roundsFit Closed r ≡ true
-unfolding roundsFit
-closed-make r a b =
-    and-both (leb (r .raised) (4095 * r .items)) (leb (total r + r .lowered) (4095 * r .items)) (le-leb (r .raised) (4095 * r .items) a) (le-leb (total r + r .lowered) (4095 * r .items) b)
+    go : (ph : Phase) → isRising ph ≡ false → roundsFit ph r ≡ true
+    go Rising o = absurd (not-both true refl o)
+    go Falling o = unfold roundsFit in both
+    go Closed o = unfold roundsFit in both
 
 -- no item of the set stands at 4,095
 top-free : (m : ℕ) (p : List ℕ) (x : ℕ) → atTop m p x ≡ false → (k : ℕ) → k < m → has x (suc k) ≡ true → amount p (suc k) ≡ 4095 → ⊥
@@ -110,7 +115,7 @@ module _ (r : Auction) (f : Formed r) (before : isClosed (r .phase) ≡ false) w
       without-reports (settled r (lowered x)) refl refl refl (f .some-item) (f .max-items) (f .some-bidder) (f .max-bidders)
       (lower-range m few (r .prices) x small (f .price-max))
       (λ k l h. lower-past m few (r .prices) x small k l (f .unused-price k l h))
-      (falling-make (settled r (lowered x)) (w .0) (omega (arith, w .1, less))) (not-closed Falling (settled r (lowered x)) refl)
+      (late-make Falling (settled r (lowered x)) refl (w .0) (omega (arith, w .1, less))) (not-closed Falling (settled r (lowered x)) refl)
 
   closed-fits : missing r ≡ false → risingSet r ≡ 0 → fallingSet r ≡ 0 → closeFits Closed (settled r closed) ≡ true
   unfolding closeFits settled missing hasReported risingSet fallingSet reportsOf aboveZero
@@ -133,7 +138,7 @@ module _ (r : Auction) (f : Formed r) (before : isClosed (r .phase) ≡ false) w
         within = f .within;
         reported-fit = f .reported-fit;
         other-empty = f .other-empty;
-        rounds = closed-make (settled r closed) (w .0) (w .1);
+        rounds = late-make Closed (settled r closed) refl (w .0) (w .1);
         at-close = closed-fits a b c;
       }
 
