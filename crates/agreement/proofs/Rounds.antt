@@ -11,7 +11,7 @@ use Rattle.sets.specs.Count.{toNat}
 use Rattle.sets.specs.Bit.{has}
 use Rattle.sets.specs.Sum.{sum}
 use Rattle.sets.proofs.Counting.{and-left, not-both}
-use Rattle.sets.proofs.Members.{has-zero, has-above}
+use Rattle.sets.proofs.Members.{has-zero, has-past}
 use Rattle.sets.proofs.Sums.{sum-less, sum-bound}
 use Rattle.rule.specs.Sheet.{amount, priceSum}
 use Rattle.rule.specs.Demand.{Demand}
@@ -57,7 +57,7 @@ supply-positive m p ds i l e =
 module _ (m : ℕ) (few : m ≤ 32) (p : List ℕ) (x : ℕ) (small : x < 2 ^ m) where
   -- places past the items stay
   pub raise-past : (k : ℕ) → k < 32 → m ≤ k → amount (raise 32 p x) (suc k) ≡ amount p (suc k)
-  raise-past k l h = raised-out 32 p x (suc k) (omega arith) (has-above m x k small h)
+  raise-past k l h = raised-out 32 p x (suc k) (omega arith) (has-past m x (suc k) small (omega arith))
 
   pub lower-past : (k : ℕ) → k < 32 → amount p (suc k) ≡ 0 → amount (lower 32 p x) (suc k) ≡ 0
   lower-past k l e = omega (arith, e, lowered-le 32 p x (suc k) (omega arith))
@@ -71,7 +71,7 @@ module _ (m : ℕ) (few : m ≤ 32) (p : List ℕ) (x : ℕ) (small : x < 2 ^ m)
       go : Dec (32 ≤ k) → Dec (m ≤ k) → (b : Bool) → has x (suc k) ≡ b → amount (raise 32 p x) (suc k) ≤ 4095
       go (yes l) d b e = omega (arith, amount-beyond 32 (raise 32 p x) (raise-length 32 p x) (suc k) (omega arith))
       go (no l) d false e = omega (arith, raised-out 32 p x (suc k) (omega arith) e, range (suc k))
-      go (no l) (yes h) true e = absurd (not-both (has x (suc k)) e (has-above m x k small h))
+      go (no l) (yes h) true e = absurd (not-both (has x (suc k)) e (has-past m x (suc k) small (omega arith)))
       go (no l) (no h) true e =
           let ne : amount p (suc k) ≡ 4095 → ⊥ = top k (omega arith) e in
           omega (arith, raised-in 32 p x (suc k) (omega arith) e, range (suc k), ne)

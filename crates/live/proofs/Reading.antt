@@ -9,7 +9,7 @@ use lib.Dec.{leb, ltb}
 use lib.ListN.{length, getD}
 use borrow.Author.Tests.{le-leb, lt-leb, lt-ltb, le-ltb}
 use Rattle.sets.specs.Lists.{places}
-use Rattle.sets.proofs.Bits.{lt-or-le}
+use Rattle.sets.proofs.Counting.{lt-or-le}
 use Rattle.sets.proofs.Lists.{places-at}
 use Rattle.sets.proofs.Members.{setOf-lt}
 use Rattle.rule.specs.Excess.{positive}

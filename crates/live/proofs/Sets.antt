@@ -11,8 +11,7 @@ use lib.ListN.{length, getD, List·getD-eq-default}
 use borrow.Author.Tests.{le-leb, eqb-true}
 use Rattle.sets.specs.Bit.{isSet, has}
 use Rattle.sets.specs.Count.{toNat, anyBelow}
-use Rattle.sets.proofs.Bits.{lt-or-le}
-use Rattle.sets.proofs.Counting.{and-right, and-both, is-false, not-both, any-make}
+use Rattle.sets.proofs.Counting.{lt-or-le, and-right, and-both, is-false, not-both, any-make}
 use Rattle.sets.proofs.Members.{setOf-lt, isSet-small}
 use Rattle.rule.specs.Sheet.{amount}
 use Rattle.rule.specs.Excess.{excessDemand, excessSupply, positive}

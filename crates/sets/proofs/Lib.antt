@@ -5,6 +5,5 @@ pub mod Bits
 pub mod Members
 pub mod Lowest
 pub mod Words
-pub mod Laws
 pub mod Largest
 pub mod Lists
