@@ -84,6 +84,9 @@ module _ (m : ℕ) (lm : m ≤ 32) (p : List ℕ) (long : length p ≡ m) where
       go (inl l) = places-at 32 p k l
       go (inr l) = List·getD-eq-default (places 32 p) 0 {n = k} (omega (arith, places-length 32 p)) ∙ sym (past k (omega arith))
 
+  pub positive-places : (n : ℕ) → positive n (places 32 p) ≡ positive n p
+  positive-places n = positive-same (places 32 p) p places-amount n
+
   pub demands-places : (bids : List (List ℕ)) → demands m bids (places 32 p) ≡ demands m bids p
   demands-places bids = demands-same (places 32 p) p places-amount m bids
 

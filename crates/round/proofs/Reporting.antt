@@ -27,10 +27,10 @@ report n sets nulls b l =
     tabulate-at n (λ b. record { null = has nulls (suc b); items = getD sets b 0 }) 0 b _ l
     ∙ ap (λ (k : ℕ). record { null = has nulls (suc k); items = getD sets k 0 }) (zero-add b)
 
-map-tabulate : {A : Type 0} (g : A → ℕ) (n : ℕ) (f : ℕ → A) (i : ℕ) → tabulate n (λ k. g (f k)) i ≡ map g (tabulate n f i)
+pub map-tabulate : {A B : Type 0} (g : A → B) (n : ℕ) (f : ℕ → A) (i : ℕ) → tabulate n (λ k. g (f k)) i ≡ map g (tabulate n f i)
 unfolding tabulate
 map-tabulate g zero f i = refl
-map-tabulate g (suc n) f i = ap (λ (xs : List ℕ). g (f i) ∷ xs) (map-tabulate g n f (suc i))
+map-tabulate {A} {B} g (suc n) f i = ap (λ (xs : List B). g (f i) ∷ xs) (map-tabulate g n f (suc i))
 
 -- f of bidder b + 1's report
 pub map-report : (f : Demand → ℕ) (n : ℕ) (sets : List ℕ) (nulls b : ℕ) → b < n

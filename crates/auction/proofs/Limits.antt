@@ -1,0 +1,210 @@
+-- No number turns a sheet down if and only if the bids have their exact length and the sheet is within the limits. Assumes nothing.
+use Prim.Native.Nat.{ℕ, suc, _+_, _*_, _/_, _%_, _≤_, _<_}
+use mathlib.Core.Path.{_≡_, refl, sym, ap, _∙_, subst}
+use mathlib.Core.Bool.{Bool, true, false, _||_, not, true≢false}
+use mathlib.Core.List.{List, [], _∷_}
+use mathlib.Core.Logic.{_⊎_, inl, inr}
+use native.Mathlib.Omega.{arith}
+use native.Mathlib.Nat.{mod-lt, div-add-mod', div-lt-iff-lt-mul}
+use lib.Dec.{ltb, leb, eqb}
+use lib.ListN.{length, getD}
+use borrow.Author.Tests.{ltb-true, ltb-false, le-ltb, lt-ltb, le-leb, eqb-true, eq-eqb, ne-eqb, not-false}
+use Rattle.sets.specs.Count.{anyBelow}
+use Rattle.sets.proofs.Counting.{lt-or-le, all-make, any-use, any-make, and-both, is-false, not-both}
+use Rattle.rule.specs.Sheet.{amount, row, each4095, withinLimits}
+use Rattle.rule.specs.Refusal.{Refusal, on, first, badItems, badBidders, badLength, anyOver, badBidder}
+use Rattle.rule.proofs.Limits.{Limits, limits}
+use Rattle.rule.proofs.Refusal.{passed, given}
+use Rattle.auction.specs.Lent.{lineOf, rowsOf, sheetOf}
+use Rattle.auction.specs.Sealed.{sealedRefusal}
+use Rattle.auction.proofs.Lent.{rows-length, row-at, line-inside, line-length, line-at}
+
+-- ---- what it says that a condition fails
+
+pub first-nil : 0 ≡ first []
+unfolding first
+first-nil = refl
+
+-- the first number is 0 only if no condition holds
+pub none-first : (n : ℕ) (a : Bool) (rest : List Refusal) → first (on (suc n) a ∷ rest) ≡ 0 → (a ≡ false) × (first rest ≡ 0)
+none-first n a rest e = go a refl
+  where
+    go : (b : Bool) → a ≡ b → (a ≡ false) × (first rest ≡ 0)
+    go true q = absurd (let no : ⊥ = omega (arith, sym (given (suc n) a rest q) ∙ e) in no)
+    go false q = (q, sym (passed (suc n) a rest q) ∙ e)
+
+neither : (a b : Bool) → a || b ≡ false → (a ≡ false) × (b ≡ false)
+neither true b e = absurd (true≢false e)
+neither false b e = (refl, e)
+
+either-not : (a b : Bool) → a ≡ false → b ≡ false → a || b ≡ false
+either-not true b p q = p
+either-not false b p q = q
+
+pub good-items : (m : ℕ) → badItems m ≡ false → (1 ≤ m) × (m ≤ 32)
+unfolding badItems
+good-items m e = let w = neither (ltb m 1) (ltb 32 m) e in (ltb-false m 1 (w .0), ltb-false 32 m (w .1))
+
+pub good-bidders : (n : ℕ) → badBidders n ≡ false → (1 ≤ n) × (n ≤ 64)
+unfolding badBidders
+good-bidders n e = let w = neither (ltb n 1) (ltb 64 n) e in (ltb-false n 1 (w .0), ltb-false 64 n (w .1))
+
+pub good-bidder : (n b : ℕ) → badBidder n b ≡ false → (1 ≤ b) × (b ≤ n)
+unfolding badBidder
+good-bidder n b e = let w = neither (ltb b 1) (ltb n b) e in (ltb-false b 1 (w .0), ltb-false n b (w .1))
+
+pub good-length : (xs : List ℕ) (n : ℕ) → badLength xs n ≡ false → length xs ≡ n
+unfolding badLength
+good-length xs n e = eqb-true (length xs) n (not-false (eqb (length xs) n) e)
+
+pub none-over : (xs : List ℕ) → anyOver xs ≡ false → (k : ℕ) → k < length xs → getD xs k 0 ≤ 4095
+unfolding anyOver
+none-over xs e k l = go (lt-or-le 4095 (getD xs k 0))
+  where
+    go : (4095 < getD xs k 0) ⊎ (getD xs k 0 ≤ 4095) → getD xs k 0 ≤ 4095
+    go (inr q) = q
+    go (inl q) = absurd (not-both (anyBelow (length xs) (λ k. ltb 4095 (getD xs k 0))) (any-make (length xs) (λ k. ltb 4095 (getD xs k 0)) k l (lt-ltb 4095 (getD xs k 0) q)) e)
+
+-- ---- and how a condition fails or holds
+
+pub over-not : (xs : List ℕ) → ((k : ℕ) → k < length xs → getD xs k 0 ≤ 4095) → anyOver xs ≡ false
+unfolding anyOver
+over-not xs h =
+    is-false (anyBelow (length xs) (λ k. ltb 4095 (getD xs k 0))) (λ e.
+    let w = any-use (length xs) (λ k. ltb 4095 (getD xs k 0)) e in
+    let more = ltb-true 4095 (getD xs (w .0) 0) (w .2) in
+    let most = h (w .0) (w .1) in
+    omega arith)
+
+pub over-some : (xs : List ℕ) (k : ℕ) → k < length xs → 4095 < getD xs k 0 → anyOver xs ≡ true
+unfolding anyOver
+over-some xs k l h = any-make (length xs) (λ k. ltb 4095 (getD xs k 0)) k l (lt-ltb 4095 (getD xs k 0) h)
+
+items-good : (m : ℕ) → 1 ≤ m → m ≤ 32 → badItems m ≡ false
+unfolding badItems
+items-good m l h = either-not (ltb m 1) (ltb 32 m) (le-ltb m 1 l) (le-ltb 32 m h)
+
+bidders-good : (n : ℕ) → 1 ≤ n → n ≤ 64 → badBidders n ≡ false
+unfolding badBidders
+bidders-good n l h = either-not (ltb n 1) (ltb 64 n) (le-ltb n 1 l) (le-ltb 64 n h)
+
+pub length-good : (xs : List ℕ) (n : ℕ) → length xs ≡ n → badLength xs n ≡ false
+unfolding badLength
+length-good xs n e = ap not (eq-eqb (length xs) n e)
+
+pub length-bad : (xs : List ℕ) (n : ℕ) → (length xs ≡ n → ⊥) → badLength xs n ≡ true
+unfolding badLength
+length-bad xs n ne = ap not (ne-eqb (length xs) n ne)
+
+-- ---- a sheet that no number turns down
+
+pub record Fine (m n : ℕ) (start bids : List ℕ) : Type 0 where
+  pub some-item : 1 ≤ m
+  pub max-items : m ≤ 32
+  pub some-bidder : 1 ≤ n
+  pub max-bidders : n ≤ 64
+  pub start-long : length start ≡ m
+  pub bids-long : length bids ≡ n * m
+  pub starts : (k : ℕ) → k < length start → getD start k 0 ≤ 4095
+  pub amounts : (k : ℕ) → k < length bids → getD bids k 0 ≤ 4095
+
+module _ (m n : ℕ) (start bids : List ℕ) where
+  pub fine : sealedRefusal m n start bids ≡ 0 → Fine m n start bids
+  unfolding sealedRefusal
+  fine e =
+      let a = none-first 0 (badItems m) _ e in
+      let b = none-first 1 (badBidders n) _ (a .1) in
+      let c = none-first 2 (badLength start m) _ (b .1) in
+      let d = none-first 2 (badLength bids (n * m)) _ (c .1) in
+      let f = none-first 3 (anyOver start) _ (d .1) in
+      let g = none-first 4 (anyOver bids) _ (f .1) in
+      record {
+        some-item = good-items m (a .0) .0;
+        max-items = good-items m (a .0) .1;
+        some-bidder = good-bidders n (b .0) .0;
+        max-bidders = good-bidders n (b .0) .1;
+        start-long = good-length start m (c .0);
+        bids-long = good-length bids (n * m) (d .0);
+        starts = none-over start (f .0);
+        amounts = none-over bids (g .0);
+      }
+
+  not-refused : Fine m n start bids → sealedRefusal m n start bids ≡ 0
+  unfolding sealedRefusal
+  not-refused f =
+      passed 1 (badItems m) _ (items-good m (f .some-item) (f .max-items))
+      ∙ passed 2 (badBidders n) _ (bidders-good n (f .some-bidder) (f .max-bidders))
+      ∙ passed 3 (badLength start m) _ (length-good start m (f .start-long))
+      ∙ passed 3 (badLength bids (n * m)) _ (length-good bids (n * m) (f .bids-long))
+      ∙ passed 4 (anyOver start) _ (over-not start (f .starts))
+      ∙ passed 5 (anyOver bids) _ (over-not bids (f .amounts))
+      ∙ sym first-nil
+
+  -- ---- it is within the limits
+
+  each-make : (xs : List ℕ) → length xs ≡ m → ((k : ℕ) → k < m → getD xs k 0 ≤ 4095) → each4095 m xs ≡ true
+  unfolding each4095 amount
+  each-make xs e h = and-both (eqb (length xs) m) _ (eq-eqb (length xs) m e) (all-make m (λ k. leb (getD xs k 0) 4095) (λ k l. le-leb (getD xs k 0) 4095 (h k l)))
+
+  pub within : Fine m n start bids → withinLimits (sheetOf m n start bids) ≡ true
+  unfolding withinLimits sheetOf
+  within f =
+      let len : length (rowsOf m n bids) ≡ n = rows-length m n bids in
+      and-both _ _
+      (and-both _ _
+      (and-both _ _
+      (and-both _ _
+      (and-both (leb 1 m) (leb m 32) (le-leb 1 m (f .some-item)) (le-leb m 32 (f .max-items)))
+      (le-leb 1 (length (rowsOf m n bids)) (omega (arith, len, f .some-bidder))))
+      (le-leb (length (rowsOf m n bids)) 64 (omega (arith, len, f .max-bidders))))
+      (each-make start (f .start-long) (λ k l. f .starts k (omega (arith, l, f .start-long)))))
+      (all-make (length (rowsOf m n bids)) (λ b. each4095 m (row (rowsOf m n bids) b)) (λ b l. line b (omega (arith, l, len))))
+    where
+      line : (b : ℕ) → b < n → each4095 m (row (rowsOf m n bids) b) ≡ true
+      line b l =
+          let long = line-inside m n b (length bids) (f .bids-long) l in
+          subst (λ (xs : List ℕ). each4095 m xs ≡ true) (sym (row-at m n bids b l))
+          (each-make (lineOf m bids b) (line-length m bids b long)
+          (λ k lk. let most = f .amounts (b * m + k) (omega (arith, long, lk)) in omega (arith, line-at m bids b k lk, most)))
+
+  -- ---- and a sheet within the limits is fine, if the bids have their exact length
+
+  module _ (e : length bids ≡ n * m) (l : Limits (record { items = m; start = start; bids = rowsOf m n bids })) where
+    len : length (rowsOf m n bids) ≡ n
+    len = rows-length m n bids
+
+    start-most : (k : ℕ) → getD start k 0 ≤ 4095
+    start-most k = unfold amount in l .start .most (suc k)
+
+    line-most : (b k : ℕ) → getD (row (rowsOf m n bids) b) k 0 ≤ 4095
+    line-most b k = unfold amount in l .bid-max b (suc k)
+
+    -- bid k stands in line k / m at place k % m
+    bid-most : (k : ℕ) → k < length bids → getD bids k 0 ≤ 4095
+    bid-most k lk =
+        let some = l .some-item in
+        let b : k / m < n = div-lt-iff-lt-mul some .1 (omega (arith, lk, e)) in
+        let at = ap (λ (xs : List ℕ). getD xs (k % m) 0) (row-at m n bids (k / m) b) ∙ line-at m bids (k / m) (k % m) (mod-lt k some) ∙ ap (λ (j : ℕ). getD bids j 0) (div-add-mod' k m) in
+        omega (arith, at, line-most (k / m) (k % m))
+
+    all-fine : Fine m n start bids
+    all-fine =
+        record {
+          some-item = l .some-item;
+          max-items = l .max-items;
+          some-bidder = omega (arith, l .some-bidder, len);
+          max-bidders = omega (arith, l .max-bidders, len);
+          start-long = l .start .long;
+          bids-long = e;
+          starts = λ k lk. start-most k;
+          amounts = bid-most;
+        }
+
+  -- ---- the theorem, both ways
+
+  pub accepted-within : sealedRefusal m n start bids ≡ 0 → (length bids ≡ n * m) × (withinLimits (sheetOf m n start bids) ≡ true)
+  accepted-within e = let f = fine e in (f .bids-long, within f)
+
+  pub within-accepted : length bids ≡ n * m → withinLimits (sheetOf m n start bids) ≡ true → sealedRefusal m n start bids ≡ 0
+  unfolding sheetOf
+  within-accepted e w = not-refused (all-fine e (limits (sheetOf m n start bids) w))

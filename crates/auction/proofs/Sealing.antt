@@ -1,0 +1,102 @@
+-- The outcome of the sealed auction, from what the code's steps answer, and what it promises of its sheet. Assumes nothing.
+use Prim.Native.Nat.{ℕ, zero, suc, _^_, _≤_, _<_}
+use mathlib.Core.Path.{_≡_, refl, sym, ap, ap₂, _∙_, subst}
+use mathlib.Core.Bool.{true}
+use mathlib.Core.List.{List}
+use lib.ListN.{length}
+use Rattle.sets.specs.Lists.{places}
+use Rattle.rule.specs.Sheet.{Sheet, withinLimits}
+use Rattle.rule.specs.Demand.{demands}
+use Rattle.rule.specs.Excess.{positive}
+use Rattle.rule.specs.Round.{State, close}
+use Rattle.rule.specs.Assignment.{assignment}
+use Rattle.rule.specs.Closing.{assignmentAt}
+use Rattle.rule.specs.Closing as rule
+use Rattle.round.specs.Reports.{reports, Reported}
+use Rattle.round.proofs.Moving.{demands-places, positive-places}
+use Rattle.assignment.specs.Assigned.{assigned}
+use Rattle.assignment.proofs.Unfit.{assigned-is}
+use Rattle.assignment.proofs.Narrowing.{assignment-narrow}
+use Rattle.auction.specs.Lent.{sheetOf}
+use Rattle.auction.specs.Sealed.{sealedRefusal, refused, closed, outcome, sealedOf, Promised}
+use Rattle.auction.specs.declared.Closing.{Closing}
+use Rattle.auction.proofs.Limits.{accepted-within}
+use Rattle.auction.proofs.Demanding.{positive-lt}
+use Rattle.auction.proofs.Walking.{Ready, ready, path-long}
+
+module _ (m n : ℕ) (start bids : List ℕ) where
+  -- by the number
+  pub sealed-refused : (why : ℕ) → why ≡ sealedRefusal m n start bids → (why ≡ 0 → ⊥) → refused why ≡ sealedOf m n start bids
+  unfolding sealedOf outcome
+  sealed-refused why e ne = go why ne ∙ ap (λ (y : ℕ). outcome y (sheetOf m n start bids)) e
+    where
+      go : (x : ℕ) → (x ≡ 0 → ⊥) → refused x ≡ outcome x (sheetOf m n start bids)
+      go zero h = absurd (h refl)
+      go (suc k) h = refl
+
+  pub sealed-closed : sealedRefusal m n start bids ≡ 0 → closed (sheetOf m n start bids) ≡ sealedOf m n start bids
+  unfolding sealedOf outcome
+  sealed-closed e = ap (λ (y : ℕ). outcome y (sheetOf m n start bids)) (sym e)
+
+  number-is : sealedOf m n start bids .refusal ≡ sealedRefusal m n start bids
+  unfolding sealedOf outcome refused closed
+  number-is = go (sealedRefusal m n start bids)
+    where
+      go : (x : ℕ) → outcome x (sheetOf m n start bids) .refusal ≡ x
+      go zero = refl
+      go (suc k) = refl
+
+-- the close of a sheet, from its closing
+promise : (s : Sheet) → withinLimits s ≡ true → Promised s (closed s)
+unfolding closed
+promise s e = by (ready s e .closing)
+  where
+    by : rule.Closing s → Promised s (closed s)
+    by c =
+        record {
+          within = e;
+          closing = c;
+          raised = ap (λ (t : State). t .ups) (c .close-is);
+          lowered = ap (λ (t : State). t .downs) (c .close-is);
+          prices = ap (λ (t : State). places 32 (t .prices)) (c .close-is);
+          names = ap (λ (t : State). places 64 (assignmentAt s (t .prices))) (c .close-is);
+        }
+
+-- an outcome without a number promises all that demand 3 asks of its sheet
+pub sealed-promised : (m n : ℕ) (start bids : List ℕ) (r : Closing) → r ≡ sealedOf m n start bids → r .refusal ≡ 0 → Promised (sheetOf m n start bids) r
+sealed-promised m n start bids r e z =
+    let none : sealedRefusal m n start bids ≡ 0 = sym (number-is m n start bids) ∙ sym (ap (λ (x : Closing). x .refusal) e) ∙ z in
+    subst (λ (x : Closing). Promised (sheetOf m n start bids) x) (sealed-closed m n start bids none ∙ sym e) (promise (sheetOf m n start bids) (accepted-within m n start bids none .1))
+
+-- ---- the code's steps
+
+made : ℕ → ℕ → List ℕ → List ℕ → Closing
+made u k p names = record { refusal = 0; raised = u; lowered = k; prices = p; assignment = names }
+
+module _ (s : Sheet) (g : Ready s) where
+  pub close-long : length (close s .prices) ≡ s .items
+  unfolding close
+  close-long = path-long s (g .long) 8190
+
+  -- the names at the closing prices
+  module _ (n : ℕ) (p sets : List ℕ) (nulls above : ℕ) (ln : n ≤ 64) (ep : p ≡ places 32 (close s .prices)) (ea : above ≡ positive (s .items) p)
+      (rep : Reported (s .items) n sets) (same : reports n sets nulls ≡ demands (s .items) (s .bids) p) where
+    above-is : above ≡ positive (s .items) (close s .prices)
+    above-is = ea ∙ ap (positive (s .items)) ep ∙ positive-places (s .items) (g .max-items) (close s .prices) close-long (s .items)
+
+    reports-are : reports n sets nulls ≡ demands (s .items) (s .bids) (close s .prices)
+    reports-are = same ∙ ap (demands (s .items) (s .bids)) ep ∙ demands-places (s .items) (g .max-items) (close s .prices) close-long (s .bids)
+
+    above-lt : above < 2 ^ (s .items)
+    above-lt = subst (λ (x : ℕ). x < 2 ^ (s .items)) (sym ea) (positive-lt (s .items) p)
+
+    names-at : assigned sets nulls above n ≡ places 64 (assignmentAt s (close s .prices))
+    names-at =
+        sym (assigned-is sets nulls above n ln) ∙ ap (places 64) (assignment-narrow (s .items) n sets rep nulls above above-lt ∙ ap₂ (assignment (s .items)) above-is reports-are)
+
+    pub sealed-is : (u k : ℕ) (names : List ℕ) → u ≡ close s .ups → k ≡ close s .downs → names ≡ assigned sets nulls above n
+        → _≡_ {A = Closing} (record { refusal = 0; raised = u; lowered = k; prices = p; assignment = names }) (closed s)
+    unfolding closed made
+    sealed-is u k names eu ek en =
+        ap (λ (y : ℕ). made y k p names) eu ∙ ap (λ (y : ℕ). made (close s .ups) y p names) ek
+        ∙ ap₂ (λ (y z : List ℕ). made (close s .ups) (close s .downs) y z) ep (en ∙ names-at)

@@ -1,0 +1,47 @@
+-- A bidder's line: what its number says, and the part that is shown. Assumes nothing.
+use Prim.Native.Nat.{ℕ, zero, suc, _+_, _-_, _*_, _≤_}
+use mathlib.Core.Path.{_≡_, refl, sym, ap, _∙_}
+use mathlib.Core.List.{List, []}
+use native.Mathlib.Omega.{arith}
+use lib.ListN.{length}
+use Rattle.rule.specs.Refusal.{badItems, badBidders, badLength, badBidder}
+use Rattle.auction.specs.Lent.{lineOf}
+use Rattle.auction.specs.Line.{lineRefusal, shown, lineShown}
+use Rattle.auction.proofs.Lent.{line-inside}
+use Rattle.auction.proofs.Limits.{none-first, good-items, good-bidders, good-length, good-bidder}
+
+module _ (m n b : ℕ) (bids : List ℕ) where
+  -- what holds where no number turns the asking down
+  pub record Asked : Type 0 where
+    pub max-items : m ≤ 32
+    pub some : 1 ≤ b
+    pub most : b ≤ 64
+    pub inside : (b - 1) * m + m ≤ length bids
+
+  pub asked : lineRefusal m n b bids ≡ 0 → Asked
+  unfolding lineRefusal
+  asked e =
+      let p = none-first 0 (badItems m) _ e in
+      let q = none-first 1 (badBidders n) _ (p .1) in
+      let r = none-first 2 (badLength bids (n * m)) _ (q .1) in
+      let s = none-first 6 (badBidder n b) _ (r .1) in
+      let g = good-bidder n b (s .0) in
+      let l = good-bidders n (q .0) in
+      record {
+        max-items = good-items m (p .0) .1;
+        some = g .0;
+        most = omega (arith, g .1, l .1);
+        inside = line-inside m n (b - 1) (length bids) (good-length bids (n * m) (r .0)) (omega (arith, g .0, g .1));
+      }
+
+  pub line-none : (why : ℕ) → why ≡ lineRefusal m n b bids → (why ≡ 0 → ⊥) → [] ≡ lineShown m n b bids
+  unfolding lineShown shown
+  line-none why e ne = go why ne ∙ ap (λ (y : ℕ). shown y (lineOf m bids (b - 1))) e
+    where
+      go : (x : ℕ) → (x ≡ 0 → ⊥) → [] ≡ shown x (lineOf m bids (b - 1))
+      go zero h = absurd (h refl)
+      go (suc k) h = refl
+
+  pub line-is : lineRefusal m n b bids ≡ 0 → lineOf m bids (b - 1) ≡ lineShown m n b bids
+  unfolding lineShown shown
+  line-is e = ap (λ (y : ℕ). shown y (lineOf m bids (b - 1))) (sym e)

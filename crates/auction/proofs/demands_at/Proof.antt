@@ -1,0 +1,96 @@
+-- `auction::demands_at` meets its contract. Assumes nothing.
+use Prim.Native.Nat.{ℕ, _-_}
+use mathlib.Core.Path.{ap, _∙_}
+use mathlib.Core.List.{List}
+use native.Mathlib.Omega.{arith}
+use lib.ListN.{length}
+use Rattle.rule.specs.Demand.{demand}
+use Rattle.auction.specs.Lent.{lineOf}
+use Rattle.auction.proofs.Lent.{line-inside, line-length}
+use Rattle.auction.proofs.Demanding.{Collected, collect-start, collect-next, collect-end}
+use borrow.Author.Needs.{needs}
+use Rattle.auction.proofs.demands_at.Statement.{statement}
+use Rattle.auction.proofs.demands_at.Tie as tie
+
+abbrev Inv-loop : tie.InvT-loop
+Inv-loop prices bids items bidders sets₀ nulls₀ b₀ sets nulls b = Collected items bidders prices bids sets nulls b
+
+abbrev μ-loop : tie.MeasureT-loop
+μ-loop prices bids items bidders sets₀ nulls₀ b₀ sets nulls b = bidders - b
+
+loop-holds : tie.Need-loop-holds Inv-loop μ-loop
+loop-holds c = let a = c .before .args in collect-start (a .items) (a .bidders) (a .prices .now) (a .bids .now)
+
+row-requires : tie.Need-row-requires Inv-loop μ-loop
+row-requires c κs =
+    let a = c .before .before .before .args in
+    let pre = c .before .before .before .pre in
+    let at = c .before .loop in
+    (pre .0, omega (arith, c .loop-test .taken, pre .1), line-inside (a .items) (a .bidders) (at .b) (length (a .bids .now)) (pre .2) (c .loop-test .taken))
+
+demand-of-requires : tie.Need-demand-of-requires Inv-loop μ-loop
+demand-of-requires c κs =
+    let a = c .before .before .before .before .args in
+    let pre = c .before .before .before .before .pre in
+    let at = c .before .before .loop in
+    let inside = line-inside (a .items) (a .bidders) (at .b) (length (a .bids .now)) (pre .2) (c .before .loop-test .taken) in
+    omega (arith, ap length (c .row .ensures) ∙ line-length (a .items) (a .bids .now) (at .b) inside, pre .0)
+
+mul-sets : tie.Need-mul-sets Inv-loop μ-loop
+mul-sets c = search needs
+
+array-write-sets : tie.Need-array-write-sets Inv-loop μ-loop
+array-write-sets c = search needs
+
+add-add-bidder : tie.Need-add-add-bidder Inv-loop μ-loop
+add-add-bidder c = search needs
+
+add-bidder-requires : tie.Need-add-bidder-requires Inv-loop μ-loop
+add-bidder-requires c κs = search needs
+
+add-b : tie.Need-add-b Inv-loop μ-loop
+add-b c = search needs
+
+loop-less : tie.Need-loop-less Inv-loop μ-loop
+loop-less c = search needs
+
+loop-again : tie.Need-loop-again Inv-loop μ-loop
+loop-again c =
+    let a = c .before .before .before .before .before .before .args in
+    let pre = c .before .before .before .before .before .before .pre in
+    let at = c .before .before .before .before .loop in
+    let lt = c .before .before .before .loop-test .taken in
+    let long = line-length (a .items) (a .bids .now) (at .b) (line-inside (a .items) (a .bidders) (at .b) (length (a .bids .now)) (pre .2) lt) in
+    let line = c .before .before .row .ensures in
+    let d = c .before .demand-of in
+    collect-next (a .items) (a .bidders) (a .prices .now) (a .bids .now) (at .sets) (at .nulls) (at .b) (at .inv) lt (pre .1)
+    (d .result .items)
+    (d .ensures .1 ∙ ap (λ (l : List ℕ). demand (length l) (a .prices .now) l .items) line ∙ ap (λ (x : ℕ). demand x (a .prices .now) (lineOf (a .items) (a .bids .now) (at .b)) .items) long)
+    (d .result .null)
+    (d .ensures .0 ∙ ap (λ (l : List ℕ). demand (length l) (a .prices .now) l .null) line ∙ ap (λ (x : ℕ). demand x (a .prices .now) (lineOf (a .items) (a .bids .now) (at .b)) .null) long)
+    (c .add-bidder .result) (c .add-bidder .ensures)
+
+returns : tie.Need-returns Inv-loop μ-loop
+returns c =
+    let a = c .before .before .before .args in
+    let pre = c .before .before .before .pre in
+    let at = c .before .loop in
+    collect-end (a .items) (a .bidders) (a .prices .now) (a .bids .now) (at .sets) (at .nulls) (at .b) (at .inv) (c .loop-test .left) (pre .0) (pre .1)
+
+pub demands-at-spec : {M : Type 1} → statement M
+demands-at-spec =
+    tie.close
+    (tie.spec
+    Inv-loop
+    μ-loop
+    loop-holds
+    row-requires
+    demand-of-requires
+    mul-sets
+    array-write-sets
+    add-add-bidder
+    add-bidder-requires
+    add-b
+    loop-less
+    loop-again
+    returns)

@@ -1,0 +1,109 @@
+-- `auction::refusal` meets its contract. Assumes nothing.
+use Prim.Native.Nat.{_*_}
+use mathlib.Core.Path.{sym, _∙_}
+use Rattle.rule.specs.Refusal.{badItems, badBidders, badLength, anyOver}
+use Rattle.rule.proofs.Refusal.{passed, given}
+use Rattle.auction.specs.Sealed.{sealedRefusal}
+use Rattle.auction.proofs.Limits.{first-nil, good-items, good-bidders, length-good, length-bad}
+use borrow.Author.Needs.{needs}
+use Rattle.auction.proofs.refusal.Statement.{statement}
+use Rattle.auction.proofs.refusal.Tie as tie
+
+bad-items-requires : tie.Need-bad-items-requires
+bad-items-requires c κs = search needs
+
+returns : tie.Need-returns
+unfolding sealedRefusal
+returns c =
+    let a = c .before .before .before .before .args in
+    sym (given 1 (badItems (a .items)) _ (sym (c .before .bad-items .ensures) ∙ c .if1 .taken))
+
+bad-bidders-requires : tie.Need-bad-bidders-requires
+bad-bidders-requires c κs = search needs
+
+returns-2 : tie.Need-returns-2
+unfolding sealedRefusal
+returns-2 c =
+    let a = c .before .before .before .before .before .before .args in
+    sym (passed 1 (badItems (a .items)) _ (sym (c .before .before .before .bad-items .ensures) ∙ c .before .before .if1 .left)
+    ∙ given 2 (badBidders (a .bidders)) _ (sym (c .before .bad-bidders .ensures) ∙ c .if2 .taken))
+
+returns-3 : tie.Need-returns-3
+unfolding sealedRefusal
+returns-3 c =
+    let a = c .before .before .before .before .before .before .before .args in
+    sym (passed 1 (badItems (a .items)) _ (sym (c .before .before .before .before .bad-items .ensures) ∙ c .before .before .before .if1 .left)
+    ∙ passed 2 (badBidders (a .bidders)) _ (sym (c .before .before .bad-bidders .ensures) ∙ c .before .if2 .left)
+    ∙ given 3 (badLength (a .start .now) (a .items)) _ (length-bad (a .start .now) (a .items) (c .if3 .taken)))
+
+bid-count-requires : tie.Need-bid-count-requires
+bid-count-requires c κs =
+    let a = c .before .before .before .before .before .before .before .args in
+    let i = good-items (a .items) (sym (c .before .before .before .before .bad-items .ensures) ∙ c .before .before .before .if1 .left) in
+    let b = good-bidders (a .bidders) (sym (c .before .before .bad-bidders .ensures) ∙ c .before .if2 .left) in
+    (i .1, b .1)
+
+returns-4 : tie.Need-returns-4
+unfolding sealedRefusal
+returns-4 c =
+    let a = c .before .before .before .before .before .before .before .before .before .args in
+    sym (passed 1 (badItems (a .items)) _ (sym (c .before .before .before .before .before .before .bad-items .ensures) ∙ c .before .before .before .before .before .if1 .left)
+    ∙ passed 2 (badBidders (a .bidders)) _ (sym (c .before .before .before .before .bad-bidders .ensures) ∙ c .before .before .before .if2 .left)
+    ∙ passed 3 (badLength (a .start .now) (a .items)) _ (length-good (a .start .now) (a .items) (c .before .before .if3 .left))
+    ∙ given 3 (badLength (a .bids .now) (a .bidders * a .items)) _ (length-bad (a .bids .now) (a .bidders * a .items) (λ q. c .if4 .taken (q ∙ sym (c .before .bid-count .ensures)))))
+
+over-requires : tie.Need-over-requires
+over-requires c κs = search needs
+
+returns-5 : tie.Need-returns-5
+unfolding sealedRefusal
+returns-5 c =
+    let a = c .before .before .before .before .before .before .before .before .before .before .before .args in
+    sym (passed 1 (badItems (a .items)) _ (sym (c .before .before .before .before .before .before .before .before .bad-items .ensures) ∙ c .before .before .before .before .before .before .before .if1 .left)
+    ∙ passed 2 (badBidders (a .bidders)) _ (sym (c .before .before .before .before .before .before .bad-bidders .ensures) ∙ c .before .before .before .before .before .if2 .left)
+    ∙ passed 3 (badLength (a .start .now) (a .items)) _ (length-good (a .start .now) (a .items) (c .before .before .before .before .if3 .left))
+    ∙ passed 3 (badLength (a .bids .now) (a .bidders * a .items)) _ (length-good (a .bids .now) (a .bidders * a .items) (c .before .before .if4 .left ∙ c .before .before .before .bid-count .ensures))
+    ∙ given 4 (anyOver (a .start .now)) _ (sym (c .before .over .ensures) ∙ c .if5 .taken))
+
+over-requires-2 : tie.Need-over-requires-2
+over-requires-2 c κs = search needs
+
+returns-6 : tie.Need-returns-6
+unfolding sealedRefusal
+returns-6 c =
+    let a = c .before .before .before .before .before .before .before .before .before .before .before .before .before .args in
+    sym (passed 1 (badItems (a .items)) _ (sym (c .before .before .before .before .before .before .before .before .before .before .bad-items .ensures) ∙ c .before .before .before .before .before .before .before .before .before .if1 .left)
+    ∙ passed 2 (badBidders (a .bidders)) _ (sym (c .before .before .before .before .before .before .before .before .bad-bidders .ensures) ∙ c .before .before .before .before .before .before .before .if2 .left)
+    ∙ passed 3 (badLength (a .start .now) (a .items)) _ (length-good (a .start .now) (a .items) (c .before .before .before .before .before .before .if3 .left))
+    ∙ passed 3 (badLength (a .bids .now) (a .bidders * a .items)) _ (length-good (a .bids .now) (a .bidders * a .items) (c .before .before .before .before .if4 .left ∙ c .before .before .before .before .before .bid-count .ensures))
+    ∙ passed 4 (anyOver (a .start .now)) _ (sym (c .before .before .before .over .ensures) ∙ c .before .before .if5 .left)
+    ∙ given 5 (anyOver (a .bids .now)) _ (sym (c .before .over2 .ensures) ∙ c .if6 .taken))
+
+returns-7 : tie.Need-returns-7
+unfolding sealedRefusal
+returns-7 c =
+    let a = c .before .before .before .before .before .before .before .before .before .before .before .before .before .args in
+    sym (passed 1 (badItems (a .items)) _ (sym (c .before .before .before .before .before .before .before .before .before .before .bad-items .ensures) ∙ c .before .before .before .before .before .before .before .before .before .if1 .left)
+    ∙ passed 2 (badBidders (a .bidders)) _ (sym (c .before .before .before .before .before .before .before .before .bad-bidders .ensures) ∙ c .before .before .before .before .before .before .before .if2 .left)
+    ∙ passed 3 (badLength (a .start .now) (a .items)) _ (length-good (a .start .now) (a .items) (c .before .before .before .before .before .before .if3 .left))
+    ∙ passed 3 (badLength (a .bids .now) (a .bidders * a .items)) _ (length-good (a .bids .now) (a .bidders * a .items) (c .before .before .before .before .if4 .left ∙ c .before .before .before .before .before .bid-count .ensures))
+    ∙ passed 4 (anyOver (a .start .now)) _ (sym (c .before .before .before .over .ensures) ∙ c .before .before .if5 .left)
+    ∙ passed 5 (anyOver (a .bids .now)) _ (sym (c .before .over2 .ensures) ∙ c .if6 .left)
+    ∙ sym first-nil)
+
+pub refusal-spec : {M : Type 1} → statement M
+refusal-spec =
+    tie.close
+    (tie.spec
+    bad-items-requires
+    returns
+    bad-bidders-requires
+    returns-2
+    returns-3
+    bid-count-requires
+    returns-4
+    over-requires
+    returns-5
+    over-requires-2
+    returns-6
+    returns-7)

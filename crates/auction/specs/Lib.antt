@@ -1,0 +1,4 @@
+pub mod Lent
+pub mod Line
+pub mod Sealed
+pub mod Steps

@@ -1,0 +1,52 @@
+-- The sealed auction: document 01, "Order", "What demand 3 speaks of". Assumes nothing: these are definitions.
+use Prim.Native.Nat.{ℕ, zero, suc, _*_}
+use mathlib.Core.Path.{_≡_}
+use mathlib.Core.Bool.{true}
+use mathlib.Core.List.{List, [], _∷_}
+use lib.ListN.{replicate}
+use Rattle.sets.specs.Lists.{places}
+use Rattle.rule.specs.Sheet.{Sheet, withinLimits}
+use Rattle.rule.specs.Round.{close}
+use Rattle.rule.specs.Closing.{assignmentAt}
+use Rattle.rule.specs.Closing as rule
+use Rattle.rule.specs.Refusal.{on, first, badItems, badBidders, badLength, anyOver}
+use Rattle.auction.specs.Lent.{sheetOf}
+use Rattle.auction.specs.declared.Closing.{Closing}
+
+-- the number that turns a sheet down, or 0: 1, 2, 3, 4, 5
+unfoldable pub sealedRefusal : ℕ → ℕ → List ℕ → List ℕ → ℕ
+sealedRefusal m n start bids =
+    first (on 1 (badItems m) ∷ on 2 (badBidders n) ∷ on 3 (badLength start m) ∷ on 3 (badLength bids (n * m)) ∷ on 4 (anyOver start) ∷ on 5 (anyOver bids) ∷ [])
+
+-- beside a number, zeros only
+unfoldable pub refused : ℕ → Closing
+refused why = record { refusal = why; raised = 0; lowered = 0; prices = replicate 32 0; assignment = replicate 64 0 }
+
+-- the close of a sheet's path: rounds raised, rounds lowered, the closing prices in 32 places, the names in 64
+unfoldable pub closed : Sheet → Closing
+closed s =
+    record {
+      refusal = 0;
+      raised = close s .ups;
+      lowered = close s .downs;
+      prices = places 32 (close s .prices);
+      assignment = places 64 (assignmentAt s (close s .prices));
+    }
+
+-- the outcome of the sealed auction, by that number
+unfoldable pub outcome : ℕ → Sheet → Closing
+outcome zero s = closed s
+outcome (suc why) s = refused (suc why)
+
+unfoldable pub sealedOf : ℕ → ℕ → List ℕ → List ℕ → Closing
+sealedOf m n start bids = outcome (sealedRefusal m n start bids) (sheetOf m n start bids)
+
+-- an outcome that stands for its sheet: the sheet is within the limits, and rounds, prices and names are those of its closing, of which the rule's
+-- `Closing` says all that demand 3 asks
+pub record Promised (s : Sheet) (r : Closing) : Type 0 where
+  pub within : withinLimits s ≡ true
+  pub closing : rule.Closing s
+  pub raised : r .raised ≡ closing .ups
+  pub lowered : r .lowered ≡ closing .downs
+  pub prices : r .prices ≡ places 32 (closing .prices)
+  pub names : r .assignment ≡ places 64 (assignmentAt s (closing .prices))
