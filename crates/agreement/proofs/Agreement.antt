@@ -1,5 +1,5 @@
 -- The agreement of the live auction with the plain machine, over the whole list. Assumes nothing.
-use Prim.Native.Nat.{ℕ, zero, suc, _+_, _≤_, _<_}
+use Prim.Native.Nat.{ℕ, _+_, _≤_}
 use mathlib.Core.Path.{_≡_, refl, sym, ap, _∙_, subst}
 use mathlib.Core.Bool.{Bool, true, false}
 use mathlib.Core.List.{List, [], _∷_}
@@ -15,18 +15,17 @@ use Rattle.rule.proofs.Limits.{Limits, limits}
 use Rattle.rule.proofs.Closing.{closing}
 use Rattle.sets.proofs.Counting.{not-both}
 use Rattle.live.specs.Auction.{wellFormed}
-use Rattle.live.specs.Calls.{isClosed, opened, openAuction, endNumber, gives, endAnswer}
+use Rattle.live.specs.Calls.{isClosed, opened, endNumber, endAnswer}
 use Rattle.live.specs.declared.Auction.{Auction}
-use Rattle.live.specs.declared.Phase.{Phase}
 use Rattle.live.specs.declared.Phase.the-variants.{Closed}
 use Rattle.live.specs.declared.Reply.{Reply}
 use Rattle.live.proofs.Opening.{accepts}
 use Rattle.live.proofs.Parts.{by-parts}
 use Rattle.agreement.specs.Calls.{Call, reporting, ending, clearing, reading, Answer, Answered, call, Ran, run}
-use Rattle.agreement.specs.Machine.{Machine, begin, at, phase, phaseOf, demandsStand, Outcome, answers, leaves, machine, MachineRan, ran, left, behind, machineRun}
+use Rattle.agreement.specs.Machine.{Machine, begin, at, phase, phaseOf, Outcome, answers, leaves, machine, MachineRan, ran, left, behind, machineRun}
 use Rattle.agreement.specs.Agreement.{openingOf, liveRun, standsFor, never, ClosedAs, Agrees}
 use Rattle.agreement.proofs.Along.{closes-at, not-sooner}
-use Rattle.agreement.proofs.Formed.{range-in, over-not}
+use Rattle.live.proofs.Formed.{range-in, over-not}
 use Rattle.agreement.proofs.Always.{Sound, keeps, keeps-all, never-eleven, open-sound}
 use Rattle.agreement.proofs.Counted.{rounds-are}
 use Rattle.agreement.proofs.Follows.{Good, Follows, no-nulls, no-reported, no-sets}

@@ -1,17 +1,15 @@
 -- What holds along the path of a sheet, as far as a record shows it. Assumes nothing.
 use Prim.Native.Nat.{ℕ, zero, suc, _+_, _-_, _^_, _≤_, _<_}
 use mathlib.Core.Path.{_≡_, refl, sym, ap, _∙_, subst}
-use mathlib.Core.Bool.{Bool, true, false}
 use mathlib.Core.List.{List}
 use native.Mathlib.Omega.{arith}
 use native.Mathlib.Decide.{decLe}
 use lib.ListN.{length}
-use Rattle.rule.specs.Sheet.{amount, Sheet}
+use Rattle.rule.specs.Sheet.{Sheet}
 use Rattle.rule.specs.Demand.{Demand}
-use Rattle.rule.specs.Excess.{excessDemand, excessSupply, positive}
-use Rattle.rule.specs.Round.{Phase, rising, falling, Round, raised, lowered, closed, State, move, roundAt, round, after, opening, path, close, raise, lower}
-use Rattle.rule.specs.Closing.{demandsAt, excessDemandAt, excessSupplyAt, roundOf, phaseAfter, Closing}
-use Rattle.rule.proofs.Limits.{Limits, amount-beyond}
+use Rattle.rule.specs.Excess.{positive}
+use Rattle.rule.specs.Round.{Phase, rising, falling, Round, raised, lowered, closed, State, move, roundAt, round, after, opening, path, close}
+use Rattle.rule.specs.Closing.{demandsAt, excessDemandAt, roundOf, phaseAfter, Closing}
 use Rattle.rule.proofs.Largest.{demand-bound, supply-bound}
 use Rattle.rule.proofs.Moves.{raise-length, lower-length}
 use Rattle.agreement.proofs.Rounds.{Takes, raises, lowers, closes, takes}

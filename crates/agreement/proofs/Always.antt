@@ -1,17 +1,17 @@
 -- Every call hands back a well formed record if it was given one, and an opening that is not turned down makes one: after an opening, 11 applies to no call of any
 -- list, whatever is reported. The record beside an opening that is turned down gets 11. Assumes nothing.
-use Prim.Native.Nat.{ℕ, zero, suc, _+_, _≤_, _<_}
-use mathlib.Core.Path.{_≡_, refl, sym, ap, _∙_, subst}
-use mathlib.Core.Bool.{Bool, true, false, _&&_, _||_, not}
+use Prim.Native.Nat.{ℕ, zero, suc, _≤_, _<_}
+use mathlib.Core.Path.{_≡_, refl, sym, ap, _∙_}
+use mathlib.Core.Bool.{Bool, true, false, _&&_, not}
 use mathlib.Core.List.{List, [], _∷_}
 use native.Mathlib.Omega.{arith}
 use native.Mathlib.Decide.{decLe}
 use lib.Dec.{eqb}
-use lib.ListN.{length, getD, replicate, length-set, length-replicate, List·getD-eq-default}
+use lib.ListN.{length, length-set, length-replicate, List·getD-eq-default}
 use borrow.Author.Tests.{eqb-true, ne-eqb}
 use borrow.Author.Tests.{not-false as not-false-is}
 use Rattle.sets.specs.Lists.{places}
-use Rattle.sets.proofs.Counting.{and-both, not-both}
+use Rattle.sets.proofs.Counting.{and-both}
 use Rattle.sets.proofs.Lists.{places-length, places-at}
 use Rattle.rule.specs.Sheet.{amount}
 use Rattle.rule.specs.Demand.{Demand}
@@ -19,16 +19,16 @@ use Rattle.rule.specs.Round.{Round, raised, lowered, closed}
 use Rattle.rule.specs.Refusal.{Refusal, on, first, badItems, badBidders, badLength, anyOver, badBidder}
 use Rattle.rule.proofs.Refusal.{passed, given}
 use Rattle.rule.proofs.Limits.{amount-beyond}
-use Rattle.live.specs.Auction.{hasReported, unfit, missing, risingSet, countsFit, roundsFit, wellFormed}
+use Rattle.live.specs.Auction.{hasReported, unfit, missing, risingSet, wellFormed}
 use Rattle.live.specs.Calls.{isClosed, isFalling, isRising, atTop, openNumber, zeros, opened, unopened, openAuction, reportNumber, withReport, report, clearNumber, cleared, clear, endNumber, roundBy, settled, gives, refused, endAnswer, endNext}
-use Rattle.live.specs.Reading.{readNumber, readBytes}
+use Rattle.live.specs.Reading.{readNumber}
 use Rattle.live.specs.declared.Auction.{Auction}
 use Rattle.live.specs.declared.Phase.the-variants.{Rising}
 use Rattle.live.specs.declared.Reply.{Reply}
-use Rattle.agreement.specs.Calls.{Call, reporting, ending, clearing, reading, Answer, told, ended, shown, call, Ran, run}
+use Rattle.agreement.specs.Calls.{Call, reporting, ending, clearing, reading, ended, call, run}
 use Rattle.agreement.specs.Agreement.{numberOf, never}
-use Rattle.agreement.proofs.Numbers.{first-none, first-nil}
-use Rattle.agreement.proofs.Formed.{in-range, not-over, Formed, formed, well}
+use Rattle.live.proofs.Refusing.{none as first-none}
+use Rattle.live.proofs.Formed.{in-range, not-over, Formed, formed, well}
 use Rattle.agreement.proofs.Keeps.{without-reports, not-closed, cleared-formed, reported-formed}
 use Rattle.agreement.proofs.Settles.{settled-formed, rising-make}
 

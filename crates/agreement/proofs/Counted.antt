@@ -1,6 +1,6 @@
 -- The rounds among the machine's answers are the path's, in order. Assumes nothing.
 use Prim.Native.Nat.{ℕ, zero, suc, _+_}
-use mathlib.Core.Path.{_≡_, refl, sym, ap, _∙_, subst}
+use mathlib.Core.Path.{_≡_, refl, ap, _∙_, subst}
 use mathlib.Core.Bool.{Bool, true, false, _&&_, not}
 use mathlib.Core.List.{List, [], _∷_}
 use native.Mathlib.Omega.{arith}
@@ -11,8 +11,8 @@ use Rattle.sets.proofs.Counting.{and-left}
 use Rattle.rule.specs.Sheet.{Sheet}
 use Rattle.rule.specs.Round.{Round, raised, lowered, closed}
 use Rattle.rule.specs.Closing.{roundOf}
-use Rattle.live.specs.Calls.{gives, refused}
-use Rattle.agreement.specs.Calls.{Call, reporting, ending, clearing, reading, Answer, told, ended, shown}
+use Rattle.live.specs.Calls.{gives}
+use Rattle.agreement.specs.Calls.{Call, reporting, ending, clearing, reading, Answer, ended, shown}
 use Rattle.agreement.specs.Machine.{Machine, begin, demandsStand, Outcome, answers, leaves, tells, machineReport, machineClear, machineReadNumber, machineRead, machineEndNumber, next, turned, machineEnd, machine, MachineRan, ran, left, behind, machineRun}
 use Rattle.agreement.specs.Agreement.{roundsOf}
 

@@ -1,8 +1,8 @@
 -- Ending a round agrees with the machine. Assumes nothing.
-use Prim.Native.Nat.{ℕ, zero, suc, _+_, _-_, _^_, _≤_, _<_}
+use Prim.Native.Nat.{ℕ, zero, suc, _+_, _-_, _<_}
 use mathlib.Core.Path.{_≡_, refl, sym, ap, _∙_, subst}
 use mathlib.Core.Bool.{Bool, true, false, _&&_, not}
-use mathlib.Core.List.{List, [], _∷_}
+use mathlib.Core.List.{List, []}
 use native.Mathlib.Omega.{arith}
 use lib.Dec.{eqb}
 use lib.ListN.{length, replicate}
@@ -18,15 +18,13 @@ use Rattle.rule.specs.Excess.{excessDemand, positive}
 use Rattle.rule.specs.Round.{rising, falling, Round, raised, lowered, closed, State, move, roundAt, round, path, raise, lower}
 use Rattle.rule.specs.Round.{Phase as RulePhase}
 use Rattle.rule.specs.Closing.{demandsAt, excessDemandAt, roundOf, phaseAfter, Closing}
-use Rattle.rule.specs.Refusal.{on, first}
 use Rattle.rule.proofs.Limits.{Limits}
 use Rattle.rule.proofs.Refusal.{passed}
 use Rattle.round.proofs.Moving.{raise-places, lower-places}
 use Rattle.live.specs.Auction.{reportsOf, missing, aboveZero, risingSet, wellFormed}
 use Rattle.live.specs.Calls.{isClosed, isFalling, isRising, atTop, endNumber, ruled, roundBy, settled, gives, refused, endAnswer, endNext}
-use Rattle.live.specs.declared.Auction.{Auction}
 use Rattle.live.specs.declared.Phase.{Phase}
-use Rattle.live.specs.declared.Phase.the-variants.{Rising, Falling, Closed}
+use Rattle.live.specs.declared.Phase.the-variants.{Rising, Falling}
 use Rattle.live.proofs.Parts.{by-parts}
 use Rattle.agreement.specs.Calls.{ending, ended, Answered, call}
 use Rattle.agreement.specs.Machine.{Machine, none, at, phaseOf, phase, saidAll, isMissing, demandsStand, answers, machineEndNumber, next, turned, machineEnd, machine}

@@ -1,9 +1,6 @@
 -- An end's answer in document 01's words says the whole answer of the code: no two answers of the enum have the same. Assumes nothing.
-use Prim.Native.Nat.{ℕ}
-use mathlib.Core.Path.{_≡_, refl, ap, _∙_}
-use native.Mathlib.Omega.{arith}
+use mathlib.Core.Path.{_≡_, refl}
 use Rattle.live.specs.Calls.{moveOf, endingOf}
-use Rattle.live.specs.declared.Kind.{Kind}
 use Rattle.live.specs.declared.Kind.the-variants.{Raised, Lowered}
 use Rattle.live.specs.declared.Ended.{Ended}
 use Rattle.live.specs.declared.Ended.the-variants.{Moved, Refused}

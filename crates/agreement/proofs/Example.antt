@@ -1,8 +1,7 @@
 -- Lists to try, by computation from the definitions: that a list stays on its sheet is no empty premise. Assumes nothing.
-use Prim.Native.Nat.{ℕ, zero, suc, _+_, _*_}
 use mathlib.Core.Path.{_≡_, refl}
-use mathlib.Core.Bool.{Bool, true, false}
-use mathlib.Core.List.{List, [], _∷_, _++_}
+use mathlib.Core.Bool.{true, false}
+use mathlib.Core.List.{List, [], _∷_}
 use lib.ListN.{replicate}
 use Rattle.sets.specs.Count.{allBelow, anyBelow, count}
 use Rattle.sets.specs.Bit.{bit, isSet, has, setOf, each, any, size, lowest}
@@ -10,18 +9,17 @@ use Rattle.sets.specs.Largest.{largestBelow, largest}
 use Rattle.sets.specs.Lists.{tabulate, places}
 use Rattle.sets.specs.Sum.{sum}
 use Rattle.rule.specs.Sheet.{amount, row, Sheet, priceSum}
-use Rattle.rule.specs.Demand.{Demand, surplusAtLeast, best, demand, demands, wants, nth}
+use Rattle.rule.specs.Demand.{surplusAtLeast, best, demand, demands, wants, nth}
 use Rattle.rule.specs.Excess.{bidders, crowded, inExcess, inPositiveExcess, excessDemand, positiveExcessDemand, excessSupply, positive}
-use Rattle.rule.specs.Round.{raise, lower, raised, lowered, closed, roundFalling, round, move, roundAt, after, opening, path, close}
+use Rattle.rule.specs.Round.{raise, lower, lowered, closed, roundFalling, round, move, roundAt, after, opening, path, close}
 use Rattle.rule.specs.Assignment.{option, holders, isAssignment, fits, someList, choose, assignment}
 use Rattle.rule.specs.Refusal.{first, badItems, badBidders, badLength, anyOver, badBidder}
 use Rattle.lines.specs.Lines.{digit, hex, newline, joined, closingSheet, closingLength, writtenTo}
 use Rattle.round.specs.Reports.{reports}
 use Rattle.live.specs.Auction.{place, hasReported, missing, isEmpty, beyond, unfit, reportsOf, aboveZero, risingSet, fallingSet, countsFit, pricesFit, unusedPrices, unusedPlaces, unusedBits, reportedFit, othersEmpty, roundsFit, closeFits, wellFormed}
-use Rattle.live.specs.Calls.{openNumber, zeros, opened, unopened, openAuction, saying, reportNumber, withReport, report, clearNumber, cleared, clear, atTop, endNumber, roundBy, settled, gives, refused, endAnswer, endNext}
-use Rattle.live.specs.Reading.{readNumber, namesOf, sheetOf, readBytes}
-use Rattle.agreement.specs.Calls.{Call, reporting, ending, clearing, reading, Answer, told, ended, shown, call, run}
-use Rattle.agreement.specs.Machine.{Machine, begin, at, phaseOf, phase, doesStand, said, saidAll, isMissing, sameBool, sameDemand, standsAs, demandsStand, tells, machineReport, machineClear, machineReadNumber, sealedSheet, machineRead, machineEndNumber, next, turned, machineEnd, machine, MachineRan, ran, left, behind, machineRun}
+use Rattle.live.specs.Calls.{openNumber, opened, unopened, openAuction, saying, reportNumber, withReport, report, clearNumber, cleared, clear, atTop, endNumber, roundBy, settled, gives, refused, endAnswer, endNext}
+use Rattle.agreement.specs.Calls.{reporting, ending, clearing, reading, Answer, told, ended, shown, call, run}
+use Rattle.agreement.specs.Machine.{begin, at, phaseOf, phase, doesStand, said, saidAll, isMissing, sameBool, sameDemand, standsAs, demandsStand, tells, machineReport, machineClear, machineReadNumber, sealedSheet, machineRead, machineEndNumber, next, turned, machineEnd, machine, MachineRan, ran, left, behind, machineRun}
 
 abbrev answersOf : MachineRan → List Answer
 answersOf (ran xs t) = xs

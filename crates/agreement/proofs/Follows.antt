@@ -1,8 +1,7 @@
 -- A call on the record that stands for a state of the machine, beside the machine's outcome. Assumes nothing.
 use Prim.Native.Nat.{ℕ, zero, suc, _<_}
-use mathlib.Core.Path.{_≡_, refl, sym, _∙_, ap}
-use mathlib.Core.Bool.{Bool, true, false}
-use mathlib.Core.List.{List}
+use mathlib.Core.Path.{_≡_, refl, sym}
+use mathlib.Core.Bool.{true}
 use lib.ListN.{replicate}
 use Rattle.sets.specs.Bit.{setOf}
 use Rattle.sets.specs.Lists.{tabulate}

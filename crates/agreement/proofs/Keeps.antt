@@ -1,27 +1,27 @@
 -- Report and clear keep a record well formed. Assumes nothing.
-use Prim.Native.Nat.{ℕ, zero, suc, _+_, _*_, _-_, _≤_, _<_}
+use Prim.Native.Nat.{ℕ, suc, _-_, _≤_, _<_}
 use mathlib.Core.Path.{_≡_, refl, sym, ap, _∙_, subst}
 use mathlib.Core.Bool.{Bool, true, false, _&&_, _||_, not}
-use mathlib.Core.List.{List, [], _∷_}
+use mathlib.Core.List.{List}
 use native.Mathlib.Omega.{arith}
 use native.Mathlib.Decide.{ℕ-discrete}
 use lib.Dec.{eqb, leb}
 use lib.ListN.{length, getD, set, replicate, getD-replicate}
 use lib.Seq.{getD-set-same, getD-set-other}
-use borrow.Author.Tests.{eqb-true, leb-true, le-leb, eq-eqb, ne-eqb}
+use borrow.Author.Tests.{eq-eqb, ne-eqb}
 use Rattle.sets.specs.Count.{anyBelow}
 use Rattle.sets.specs.Bit.{has, setOf}
 use Rattle.sets.proofs.Counting.{and-left, and-right, or-right, any-use, is-false, not-both, not-is}
 use Rattle.sets.proofs.Members.{has-setOf, empty-has}
-use Rattle.rule.specs.Sheet.{amount, priceSum}
+use Rattle.rule.specs.Sheet.{amount}
 use Rattle.rule.specs.Demand.{Demand}
 use Rattle.live.specs.Auction.{place, hasReported, isEmpty, beyond, unfit, roundsFit, closeFits}
 use Rattle.live.specs.Calls.{isClosed, withReport, cleared}
 use Rattle.live.specs.declared.Auction.{Auction}
 use Rattle.live.specs.declared.Phase.{Phase}
 use Rattle.live.specs.declared.Phase.the-variants.{Rising, Falling, Closed}
-use Rattle.agreement.proofs.Bools.{or-false, or-right-false, and-true, and-right-false}
-use Rattle.agreement.proofs.Formed.{Formed}
+use Rattle.agreement.proofs.Bools.{or-false, and-true, and-right-false}
+use Rattle.live.proofs.Formed.{or-right-false, Formed}
 
 -- ---- rounds and close of two records
 

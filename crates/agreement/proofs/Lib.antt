@@ -1,6 +1,5 @@
 pub mod Bools
 pub mod Numbers
-pub mod Formed
 pub mod Rounds
 pub mod Keeps
 pub mod Settles

@@ -1,21 +1,14 @@
--- Two lists of refusals side by side, and what it says that no number is given. Assumes nothing.
-use Prim.Native.Nat.{ℕ, suc}
+-- Two lists of refusals side by side. Assumes nothing.
+use Prim.Native.Nat.{ℕ}
 use mathlib.Core.Path.{_≡_, refl, sym, _∙_}
 use mathlib.Core.Bool.{Bool, true, false}
 use mathlib.Core.List.{List, [], _∷_}
-use native.Mathlib.Omega.{arith}
 use Rattle.rule.specs.Refusal.{Refusal, on, first}
 use Rattle.rule.proofs.Refusal.{passed, given}
 
 pub first-same : (n : ℕ) (a b : Bool) (xs ys : List Refusal) → a ≡ b → (b ≡ false → first xs ≡ first ys) → first (on n a ∷ xs) ≡ first (on n b ∷ ys)
 first-same n a true xs ys e h = given n a xs e ∙ sym (given n true ys refl)
 first-same n a false xs ys e h = passed n a xs e ∙ h refl ∙ sym (passed n false ys refl)
-
--- no number: the condition fails, and no later number is given
-pub first-none : (n : ℕ) (a : Bool) (rest : List Refusal) → first (on (suc n) a ∷ rest) ≡ 0 → (a ≡ false) × (first rest ≡ 0)
-unfolding first
-first-none n true rest e = absurd (omega arith)
-first-none n false rest e = (refl, e)
 
 pub first-nil : first [] ≡ 0
 unfolding first

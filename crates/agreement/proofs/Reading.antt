@@ -1,8 +1,8 @@
 -- Reading the close agrees with the machine: the bytes are those of the sealed closing sheet. Assumes nothing.
-use Prim.Native.Nat.{ℕ, zero, suc, _+_, _≤_, _<_}
+use Prim.Native.Nat.{ℕ, zero, suc, _+_, _≤_}
 use mathlib.Core.Path.{_≡_, refl, sym, ap, _∙_, subst}
-use mathlib.Core.Bool.{Bool, true, false, not}
-use mathlib.Core.List.{List, [], _∷_, _++_}
+use mathlib.Core.Bool.{true, not}
+use mathlib.Core.List.{List, [], _++_}
 use native.Mathlib.Omega.{arith}
 use lib.Dec.{ltb}
 use lib.ListN.{length, getD}
@@ -11,11 +11,10 @@ use borrow.Author.Tests.{not-false as not-false-is}
 use Rattle.sets.specs.Lists.{places}
 use Rattle.sets.proofs.Lists.{places-at}
 use Rattle.rule.specs.Sheet.{Sheet}
-use Rattle.rule.specs.Demand.{Demand}
 use Rattle.rule.specs.Excess.{positive}
-use Rattle.rule.specs.Round.{closed, State, path, close}
+use Rattle.rule.specs.Round.{State, close}
 use Rattle.rule.specs.Assignment.{assignment}
-use Rattle.rule.specs.Closing.{demandsAt, assignmentAt, roundOf, Closing}
+use Rattle.rule.specs.Closing.{assignmentAt, Closing}
 use Rattle.rule.proofs.Limits.{Limits}
 use Rattle.rule.proofs.Refusal.{passed}
 use Rattle.lines.specs.Lines.{hex, newline, joined, closingSheet, closingLength, writtenTo}
@@ -23,11 +22,12 @@ use Rattle.live.specs.Auction.{reportsOf, aboveZero, wellFormed}
 use Rattle.live.specs.Calls.{isClosed}
 use Rattle.live.specs.Reading.{readNumber, namesOf, sheetOf, readBytes}
 use Rattle.agreement.specs.Calls.{reading, shown, call}
-use Rattle.agreement.specs.Machine.{Machine, at, demandsStand, answers, sealedSheet, machineReadNumber, machineRead, machine}
+use Rattle.agreement.specs.Machine.{Machine, at, answers, sealedSheet, machineReadNumber, machineRead, machine}
 use Rattle.agreement.specs.Agreement.{standsFor, ClosedAs}
 use Rattle.agreement.proofs.Along.{closed-close}
 use Rattle.agreement.proofs.Lists.{joined-cong}
-use Rattle.agreement.proofs.Numbers.{first-same, first-none, first-nil}
+use Rattle.live.proofs.Refusing.{none as first-none}
+use Rattle.agreement.proofs.Numbers.{first-same, first-nil}
 use Rattle.agreement.proofs.Standing.{said-demands, closed-stands, reports-is, above-is}
 use Rattle.agreement.proofs.Follows.{Good, Follows}
 

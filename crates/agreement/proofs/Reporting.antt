@@ -1,5 +1,5 @@
 -- Report and clear agree with the machine. Assumes nothing.
-use Prim.Native.Nat.{ℕ, zero, suc, _+_, _-_, _≤_, _<_}
+use Prim.Native.Nat.{ℕ, suc, _-_, _≤_, _<_}
 use mathlib.Core.Path.{_≡_, refl, sym, ap, _∙_, subst}
 use mathlib.Core.Bool.{Bool, true, false, _&&_, _||_, not, cond}
 use mathlib.Core.List.{List, [], _∷_}
@@ -18,15 +18,15 @@ use Rattle.rule.proofs.Limits.{Limits}
 use Rattle.rule.proofs.Refusal.{passed}
 use Rattle.live.specs.Auction.{hasReported, unfit, wellFormed}
 use Rattle.live.specs.Calls.{isClosed, reportNumber, withReport, report, clearNumber, cleared, clear}
-use Rattle.live.specs.declared.Auction.{Auction}
 use Rattle.live.proofs.Parts.{by-parts}
 use Rattle.agreement.specs.Calls.{reporting, clearing, call}
 use Rattle.agreement.specs.Machine.{Standing, none, stands, Machine, at, phase, doesStand, said, tells, machine, machineReport, machineClear}
 use Rattle.agreement.specs.Agreement.{standsFor}
 use Rattle.agreement.proofs.Bools.{or-false, and-true, and-right-false}
-use Rattle.agreement.proofs.Formed.{in-range}
+use Rattle.live.proofs.Formed.{in-range}
 use Rattle.agreement.proofs.Lists.{tabulate-same, tabulate-set}
-use Rattle.agreement.proofs.Numbers.{first-same, first-none}
+use Rattle.live.proofs.Refusing.{none as first-none}
+use Rattle.agreement.proofs.Numbers.{first-same}
 use Rattle.agreement.proofs.Standing.{closed-stands, reported-is}
 use Rattle.agreement.proofs.Follows.{Good, Follows, replies, no-nulls, no-reported, no-sets}
 

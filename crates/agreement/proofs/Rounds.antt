@@ -1,13 +1,11 @@
 -- A round by cases, and what it does to prices in 32 places and to their sum. Assumes nothing.
-use Prim.Native.Nat.{ℕ, zero, suc, _+_, _*_, _^_, _≤_, _<_}
-use mathlib.Core.Path.{_≡_, refl, sym, ap, _∙_}
-use mathlib.Core.Bool.{Bool, true, false, _&&_, not}
+use Prim.Native.Nat.{ℕ, zero, suc, _*_, _^_, _≤_, _<_}
+use mathlib.Core.Path.{_≡_, refl, sym, _∙_}
+use mathlib.Core.Bool.{Bool, true, false, not}
 use mathlib.Core.List.{List}
 use native.Mathlib.Omega.{arith}
 use native.Mathlib.Decide.{decLe, ℕ-discrete}
-use lib.ListN.{length}
 use borrow.Author.Tests.{ltb-true}
-use Rattle.sets.specs.Count.{toNat}
 use Rattle.sets.specs.Bit.{has}
 use Rattle.sets.specs.Sum.{sum}
 use Rattle.sets.proofs.Counting.{and-left, not-both}
@@ -16,11 +14,11 @@ use Rattle.sets.proofs.Sums.{sum-less, sum-bound}
 use Rattle.rule.specs.Sheet.{amount, priceSum}
 use Rattle.rule.specs.Demand.{Demand}
 use Rattle.rule.specs.Excess.{excessDemand, positiveExcessDemand, excessSupply, positive}
-use Rattle.rule.specs.Round.{Phase, rising, falling, Round, raised, lowered, closed, round, raise, lower}
+use Rattle.rule.specs.Round.{Phase, rising, falling, raised, lowered, closed, round, raise, lower}
 use Rattle.rule.proofs.Balance.{positive-is, amount-null}
 use Rattle.rule.proofs.Largest.{supply-has}
 use Rattle.rule.proofs.Limits.{amount-beyond}
-use Rattle.rule.proofs.Moves.{raise-length, lower-length, raise-at, lower-at, raised-in, raised-out, raised-le, lowered-in, lowered-le, some-item}
+use Rattle.rule.proofs.Moves.{raise-length, lower-length, raised-in, raised-out, raised-le, lowered-in, lowered-le, some-item}
 use Rattle.rule.proofs.Path.{round-raised, round-lowered, round-closed, round-turned, round-falling}
 
 -- ---- the round

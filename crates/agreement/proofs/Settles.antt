@@ -1,8 +1,8 @@
 -- Ending a round keeps a record well formed. Assumes nothing.
-use Prim.Native.Nat.{ℕ, zero, suc, _+_, _*_, _^_, _≤_, _<_}
+use Prim.Native.Nat.{ℕ, suc, _+_, _*_, _^_, _≤_, _<_}
 use mathlib.Core.Path.{_≡_, refl, sym, ap, _∙_, subst}
 use mathlib.Core.Bool.{Bool, true, false, _&&_, not}
-use mathlib.Core.List.{List, [], _∷_}
+use mathlib.Core.List.{List}
 use native.Mathlib.Omega.{arith}
 use lib.Dec.{eqb, leb}
 use borrow.Author.Tests.{eqb-true, leb-true, le-leb, eq-eqb}
@@ -11,16 +11,15 @@ use Rattle.sets.specs.Bit.{has}
 use Rattle.sets.specs.Count.{anyBelow}
 use Rattle.sets.proofs.Counting.{and-left, and-right, and-both, any-make, not-both}
 use Rattle.rule.specs.Sheet.{amount, priceSum}
-use Rattle.rule.specs.Excess.{excessDemand, excessSupply, positive}
-use Rattle.rule.specs.Round.{rising, falling, Round, raised, lowered, closed, round, raise, lower}
+use Rattle.rule.specs.Round.{rising, falling, Round, raised, lowered, closed}
 use Rattle.rule.specs.Round.{Phase as RulePhase}
 use Rattle.rule.proofs.Largest.{demand-bound, supply-bound}
-use Rattle.live.specs.Auction.{place, hasReported, isEmpty, beyond, unfit, missing, reportsOf, aboveZero, risingSet, fallingSet, roundsFit, closeFits}
+use Rattle.live.specs.Auction.{place, hasReported, missing, reportsOf, aboveZero, risingSet, fallingSet, roundsFit, closeFits}
 use Rattle.live.specs.Calls.{isClosed, isFalling, isRising, atTop, ruled, roundBy, settled}
 use Rattle.live.specs.declared.Auction.{Auction}
 use Rattle.live.specs.declared.Phase.{Phase}
 use Rattle.live.specs.declared.Phase.the-variants.{Rising, Falling, Closed}
-use Rattle.agreement.proofs.Formed.{Formed}
+use Rattle.live.proofs.Formed.{Formed}
 use Rattle.agreement.proofs.Rounds.{Takes, raises, lowers, closes, takes, supply-positive, raise-past, lower-past, raise-range, lower-range, raise-more, lower-less, sum-max}
 use Rattle.agreement.proofs.Keeps.{without-reports, not-closed}
 

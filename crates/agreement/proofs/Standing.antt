@@ -1,16 +1,15 @@
 -- What the record that stands for a machine's state shows. Assumes nothing.
-use Prim.Native.Nat.{ℕ, zero, suc, _+_, _-_, _^_, _≤_, _<_}
+use Prim.Native.Nat.{ℕ, zero, suc, _-_, _≤_, _<_}
 use mathlib.Core.Path.{_≡_, refl, sym, ap, _∙_, subst}
 use mathlib.Core.Bool.{Bool, true, false, _&&_, not}
-use mathlib.Core.List.{List}
 use native.Mathlib.Omega.{arith}
 use native.Mathlib.Nat.{zero-add}
 use lib.Dec.{eqb, ltb}
 use lib.ListN.{length, getD}
 use borrow.Author.Tests.{eqb-true}
-use Rattle.sets.specs.Count.{allBelow, anyBelow}
+use Rattle.sets.specs.Count.{anyBelow}
 use Rattle.sets.specs.Bit.{has, setOf}
-use Rattle.sets.specs.Lists.{tabulate, places}
+use Rattle.sets.specs.Lists.{tabulate}
 use Rattle.sets.proofs.Counting.{all-use, any-use, any-cong, and-left, and-right, is-false, not-both}
 use Rattle.sets.proofs.Lists.{tabulate-at, places-at}
 use Rattle.sets.proofs.Members.{has-setOf, setOf-cong}
@@ -21,7 +20,7 @@ use Rattle.rule.specs.Closing.{demandsAt}
 use Rattle.rule.proofs.AtPrices.{demands-length}
 use Rattle.rule.proofs.Limits.{Limits}
 use Rattle.round.specs.Reports.{reports}
-use Rattle.live.specs.Auction.{place, hasReported, missing, reportsOf, aboveZero, risingSet}
+use Rattle.live.specs.Auction.{hasReported, missing, reportsOf, aboveZero, risingSet}
 use Rattle.live.specs.Calls.{isClosed, atTop}
 use Rattle.agreement.specs.Machine.{Standing, none, stands, Machine, at, phaseOf, phase, doesStand, said, saidAll, isMissing, sameBool, sameDemand, standsAs, demandsStand}
 use Rattle.agreement.specs.Agreement.{standsFor}
