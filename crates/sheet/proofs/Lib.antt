@@ -1,0 +1,12 @@
+pub mod Walking
+pub mod Ahead
+pub mod Rows
+pub mod Order
+pub mod Called
+pub mod Ends
+pub mod Answers
+pub mod BidLines
+pub mod ReadWritten
+pub mod Sixes
+pub mod Longer
+pub mod Room

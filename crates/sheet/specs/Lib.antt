@@ -1,0 +1,4 @@
+pub mod BidSheet
+pub mod Writing
+pub mod Close
+pub mod Steps

@@ -1,0 +1,221 @@
+// Bid sheet in, closing sheet out.
+ghost use mathlib.Core.Path.{_≡_};
+ghost use mathlib.Core.Bool.{false, _||_};
+ghost use mathlib.Core.Option.{some, Option·getD};
+ghost use Prim.Native.Nat.{_+_, _*_, _≤_, _<_};
+ghost use lib.Dec.{ltb};
+ghost use lib.ListN.{length, take};
+ghost use Rattle.lines.specs.Reading.{digitAt, numberAt, endsAt, lineAt};
+ghost use Rattle.lines.specs.Lines.{closingSheet, closingLength, writtenTo};
+ghost use Rattle.rule.specs.Refusal.{badItems, badBidders};
+ghost use Rattle.sheet.specs.BidSheet.{itemsIn, biddersIn, bidsAt};
+ghost use Rattle.sheet.specs.Close.{sheetRefusal, byNumber, closedTo, refusalLine, answerOf};
+ghost use Rattle.sheet.specs.Steps.{asNumber, readAs, Closed};
+
+// How a bid sheet came out: the number that turned it down, or 0, and how many bytes of closing sheet were written.
+struct Outcome {
+    refusal: u8,
+    length: usize,
+}
+
+// What stands in digits at a place, if all of them are digits.
+enum Number {
+    Is(u16),
+    Nothing,
+}
+
+// The digit at a place, and 16 where there is none.
+fn digit_at(s: &[u8], at: usize) -> u8
+    ensures { λ r. ⌜ r ≡ Option·getD (digitAt (now (s .entry)) at) 16 ⌝ }
+{
+    if at < s.len() {
+        return lines::digit_value(s[at]);
+    }
+    16
+}
+
+// The number in at most 4 digits from a place on.
+fn number_at(s: &[u8], at: usize, digits: usize) -> Number
+    requires { ⌜ (at ≤ length (now s)) × (digits ≤ 4) ⌝ }
+    ensures { λ r. ⌜ r ≡ asNumber (numberAt digits (now (s .entry)) at) ⌝ }
+{
+    let mut x: u32 = 0;
+    let mut k: usize = 0;
+    while k < digits {
+        let d = digit_at(s, at + k);
+        if 15 < d {
+            return Number::Nothing;
+        }
+        x = 16 * x + (d as u32);
+        k += 1;
+    }
+    Number::Is(x as u16)
+}
+
+// Whether byte 0a stands at a place.
+fn ends_at(s: &[u8], at: usize) -> bool
+    ensures { λ r. ⌜ r ≡ endsAt (now (s .entry)) at ⌝ }
+{
+    if at < s.len() {
+        return s[at] == b'\n';
+    }
+    false
+}
+
+// Reads a line from a place on, as many numbers as `into` has places, 4 digits each, and says whether there is one.
+fn line_at(s: &[u8], at: usize, into: &mut [u16]) -> bool
+    requires { ⌜ (at ≤ length (now s)) × (length (now into) ≤ 32) ⌝ }
+    ensures { λ r. ⌜ lineAt (length (now (into .entry))) 4 (now (s .entry)) at ≡ readAs r (now (into .exit)) ⌝ }
+{
+    let mut here = at;
+    let mut i: usize = 0;
+    while i < into.len() {
+        let Number::Is(x) = number_at(s, here, 4) else {
+            return false;
+        };
+        into[i] = x;
+        here += 4;
+        i += 1;
+    }
+    ends_at(s, here)
+}
+
+// Reads a line for each bidder from a place on, each line's bids behind those of the line before, and says whether they are there and nothing follows.
+fn bids_at(s: &[u8], at: usize, items: usize, bidders: usize, into: &mut [u16]) -> bool
+    requires { ⌜ (at ≤ length (now s)) × (items ≤ 32) × (bidders ≤ 64) × (bidders * items ≤ length (now into)) ⌝ }
+    ensures { λ r. ⌜ bidsAt bidders items (now (s .entry)) at ≡ readAs r (take (bidders * items) (now (into .exit))) ⌝ }
+{
+    let mut here = at;
+    let mut b: usize = 0;
+    while b < bidders {
+        let from = b * items;
+        let to = from + items;
+        if !line_at(s, here, &mut into[from..to]) {
+            return false;
+        }
+        here += 4 * items + 1;
+        b += 1;
+    }
+    here == s.len()
+}
+
+fn refused(why: u8) -> Outcome
+    ensures { λ r. ⌜ (r .refusal ≡ why) × (r .length ≡ 0) ⌝ }
+{
+    Outcome {
+        refusal: why,
+        length: 0,
+    }
+}
+
+// Whether a count is outside 1 to the most there may be.
+fn outside(count: u16, most: u16) -> bool
+    ensures { λ r. ⌜ (r ≡ (ltb count 1 || ltb most count)) × (r ≡ false → count ≤ most) ⌝ }
+{
+    if count < 1 {
+        return true;
+    }
+    most < count
+}
+
+// Writes the close of the sealed auction, unless that was turned down.
+fn write(out: &mut [u8], items: u32, bidders: u32, c: auction::Closing) -> Outcome
+    requires { ⌜ (items ≤ 32) × (bidders ≤ 64) × (closingLength items bidders ≤ length (now out)) ⌝ }
+    ensures { λ r. ⌜ (r .refusal ≡ c .refusal) × (r .length ≡ byNumber (c .refusal) (closingLength items bidders) 0)
+        × (now (out .exit) ≡ byNumber (c .refusal)
+        (writtenTo (now (out .entry)) (closingSheet items bidders (c .raised) (c .lowered) (c .prices) (c .assignment)))
+        (now (out .entry))) ⌝ }
+{
+    let why = c.refusal;
+    if why != 0 {
+        return refused(why);
+    }
+    let raised = c.raised;
+    let lowered = c.lowered;
+    let prices = c.prices;
+    let assignment = c.assignment;
+    lines::write_closing(out, items, bidders, raised, lowered, &prices, &assignment);
+    Outcome {
+        refusal: 0,
+        length: 15 + 4 * (items as usize) + 2 * (bidders as usize),
+    }
+}
+
+// Closes a sheet whose counts are read and in order.
+fn close_counted(bytes: &[u8], items: u16, bidders: u16, out: &mut [u8]) -> Outcome
+    requires { ⌜ (itemsIn (now bytes) ≡ some items) × (biddersIn (now bytes) ≡ some bidders) × (badItems items ≡ false) × (badBidders bidders ≡ false)
+        × (items ≤ 32) × (bidders ≤ 64) ⌝ }
+    ensures { λ r. ⌜ Closed (now (bytes .entry)) (now (out .entry)) r (now (out .exit)) ⌝ }
+{
+    let m = items as usize;
+    let n = bidders as usize;
+    let size = n * m;
+    let mut start = [0u16; 32];
+    let mut bids = [0u16; 2048];
+    if !line_at(bytes, 4, &mut start[..m]) {
+        return refused(6);
+    }
+    if !bids_at(bytes, 5 + 4 * m, m, n, &mut bids) {
+        return refused(6);
+    }
+    if out.len() < 15 + 4 * m + 2 * n {
+        return refused(3);
+    }
+    let c = auction::sealed(items as u32, bidders as u32, &start[..m], &bids[..size]);
+    write(out, items as u32, bidders as u32, c)
+}
+
+fn close(bytes: &[u8], out: &mut [u8]) -> Outcome
+    ensures { λ r. ⌜ Closed (now (bytes .entry)) (now (out .entry)) r (now (out .exit)) ⌝ }
+{
+    let Number::Is(items) = number_at(bytes, 0, 2) else {
+        return refused(6);
+    };
+    let Number::Is(bidders) = number_at(bytes, 2, 2) else {
+        return refused(6);
+    };
+    if outside(items, 32) {
+        return refused(1);
+    }
+    if outside(bidders, 64) {
+        return refused(2);
+    }
+    close_counted(bytes, items, bidders, out)
+}
+
+// Closes a bid sheet: writes the closing sheet to the front of `out` and answers 0, or answers the number that turns the sheet down and leaves `out`
+// as it came.
+pub fn close_sheet(bytes: &[u8], out: &mut [u8]) -> u8
+    ensures { λ r. ⌜ (r ≡ sheetRefusal (now (bytes .entry)) (length (now (out .entry)))) × (now (out .exit) ≡ closedTo (now (bytes .entry)) (now (out .entry))) ⌝ }
+{
+    let done = close(bytes, out);
+    done.refusal
+}
+
+// The number's line: two decimal digits.
+fn put_refusal(out: &mut [u8], why: u8)
+    requires { ⌜ (3 ≤ length (now out)) × (why < 10) ⌝ }
+    ensures { λ _. ⌜ now (out .exit) ≡ writtenTo (now (out .entry)) (refusalLine why) ⌝ }
+{
+    out[0] = b'0' + why / 10;
+    out[1] = b'0' + why % 10;
+    out[2] = b'\n';
+}
+
+// Answers a bid sheet in full at the front of `out`, by the closing sheet or by the number's line, and says how many bytes that is; with room for
+// fewer than 3 bytes there is no answer.
+pub fn answer(bytes: &[u8], out: &mut [u8]) -> usize
+    ensures { λ r. ⌜ (r ≡ length (answerOf (now (bytes .entry)) (length (now (out .entry)))))
+        × (now (out .exit) ≡ writtenTo (now (out .entry)) (answerOf (now (bytes .entry)) (length (now (out .entry))))) ⌝ }
+{
+    if out.len() < 3 {
+        return 0;
+    }
+    let done = close(bytes, out);
+    let why = done.refusal;
+    if why == 0 {
+        return done.length;
+    }
+    put_refusal(out, why);
+    3
+}
