@@ -1,5 +1,6 @@
 -- Every call hands back a well formed record if it was given one, and an opening that is not turned down makes one: after an opening, 11 applies to no call of any
--- list, whatever is reported. The record beside an opening that is turned down gets 11. Assumes nothing.
+-- list, whatever is reported. The record beside an opening that is turned down gets 11. A call that is turned down leaves record and lent bytes as before.
+-- Assumes nothing.
 use Prim.Native.Nat.{ℕ, zero, suc, _≤_, _<_}
 use mathlib.Core.Path.{_≡_, refl, sym, ap, _∙_}
 use mathlib.Core.Bool.{Bool, true, false, _&&_, not}
@@ -19,9 +20,10 @@ use Rattle.rule.specs.Round.{Round, raised, lowered, closed}
 use Rattle.rule.specs.Refusal.{Refusal, on, first, badItems, badBidders, badLength, anyOver, badBidder}
 use Rattle.rule.proofs.Refusal.{passed, given}
 use Rattle.rule.proofs.Limits.{amount-beyond}
+use Rattle.lines.specs.Lines.{writtenTo}
 use Rattle.live.specs.Auction.{hasReported, unfit, missing, risingSet, wellFormed}
 use Rattle.live.specs.Calls.{isClosed, isFalling, isRising, atTop, openNumber, zeros, opened, unopened, openAuction, reportNumber, withReport, report, clearNumber, cleared, clear, endNumber, roundBy, settled, gives, refused, endAnswer, endNext}
-use Rattle.live.specs.Reading.{readNumber}
+use Rattle.live.specs.Reading.{readNumber, sheetOf, readBytes}
 use Rattle.live.specs.declared.Auction.{Auction}
 use Rattle.live.specs.declared.Phase.the-variants.{Rising}
 use Rattle.live.specs.declared.Reply.{Reply}
@@ -198,3 +200,32 @@ zeros-eleven (reporting b d) = given 11 (not (wellFormed zeros)) _ (ap not zeros
 zeros-eleven ending = ended-number (endNumber zeros) (roundBy zeros) ∙ given 11 (not (wellFormed zeros)) _ (ap not zeros-malformed)
 zeros-eleven clearing = given 11 (not (wellFormed zeros)) _ (ap not zeros-malformed)
 zeros-eleven (reading out) = given 11 (not (wellFormed zeros)) _ (ap not zeros-malformed)
+
+pub refused-eleven : (m n : ℕ) (start : List ℕ) → (openAuction m n start .number ≡ 0 → ⊥) → (c : Call) → numberOf (call (openAuction m n start .next) c .answer) ≡ 11
+unfolding openAuction
+refused-eleven m n start ne c = go (openNumber m n start) ne
+  where
+    go : (x : ℕ) → (replied m n start x .number ≡ 0 → ⊥) → numberOf (call (replied m n start x .next) c .answer) ≡ 11
+    go zero h = absurd (h refl)
+    go (suc j) h = unfold unopened in zeros-eleven c
+
+-- ---- a call that is turned down hands back the record and the lent bytes as before
+
+by-number : (x : ℕ) (new r : Auction) → (x ≡ 0 → ⊥) → elim x [ zero ↦ new | suc j ↦ r ] ≡ r
+by-number zero new r h = absurd (h refl)
+by-number (suc j) new r h = refl
+
+pub as-before : (r : Auction) (c : Call) → (numberOf (call r c .answer) ≡ 0 → ⊥) → call r c .next ≡ r
+unfolding call report clear endAnswer endNext numberOf
+as-before r (reporting b d) h = by-number (reportNumber r b d) (withReport r b d) r h
+as-before r ending h = by-number (endNumber r) (settled r (roundBy r)) r (λ e. h (ended-number (endNumber r) (roundBy r) ∙ e))
+as-before r clearing h = by-number (clearNumber r) (cleared r) r h
+as-before r (reading out) h = refl
+
+pub bytes-before : (r : Auction) (out : List ℕ) → (readNumber r out ≡ 0 → ⊥) → readBytes r out ≡ out
+unfolding readBytes
+bytes-before r out h = go (readNumber r out) h
+  where
+    go : (x : ℕ) → (x ≡ 0 → ⊥) → elim x [ zero ↦ writtenTo out (sheetOf r) | suc j ↦ out ] ≡ out
+    go zero h = absurd (h refl)
+    go (suc j) h = refl

@@ -15,3 +15,4 @@ pub mod Counted
 pub mod Agreement
 pub mod Endings
 pub mod Example
+pub mod Sealed

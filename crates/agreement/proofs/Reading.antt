@@ -32,7 +32,7 @@ use Rattle.agreement.proofs.Standing.{said-demands, closed-stands, repo
 use Rattle.agreement.proofs.Follows.{Good, Follows}
 
 -- the sheet has regard to the prices of the items only
-sheet-places : (m n ups downs : ℕ) (p options : List ℕ) → m ≤ 32 → closingSheet m n ups downs (places 32 p) options ≡ closingSheet m n ups downs p options
+pub sheet-places : (m n ups downs : ℕ) (p options : List ℕ) → m ≤ 32 → closingSheet m n ups downs (places 32 p) options ≡ closingSheet m n ups downs p options
 unfolding closingSheet
 sheet-places m n ups downs p options few =
     ap (λ (x : List ℕ). hex 6 ups ++ hex 6 downs ++ newline ++ x ++ newline ++ joined n (λ b. hex 2 (getD options b 0)) ++ newline)
