@@ -1,17 +1,18 @@
 -- Hall's theorem: no set is in excess demand if and only if some match places every bidder that wants something. Assumes nothing.
 use Prim.Native.Nat.{ℕ, _+_, _^_, _≤_, _<_}
-use mathlib.Core.Path.{_≡_, refl, sym, ap, _∙_}
-use mathlib.Core.Bool.{Bool, true, false, _&&_}
+use mathlib.Core.Path.{_≡_, refl, ap, _∙_}
+use mathlib.Core.Bool.{Bool, true, false}
 use mathlib.Core.List.{List}
 use native.Mathlib.Nat.{lt-irrefl}
 use native.Mathlib.Omega.{arith}
 use lib.ListN.{getD}
 use Rattle.sets.specs.Bit.{isSet}
 use Rattle.sets.specs.Count.{count}
-use Rattle.sets.proofs.Counting.{pigeonhole, and-left, and-right}
+use Rattle.sets.proofs.Counting.{and-left, and-right}
 use Rattle.sets.proofs.Members.{isSet-empty, isSet-none}
 use Rattle.matching.specs.Demand.{part, meets, excess, largestExcess, Matching}
-use Rattle.matching.proofs.Holdings.{wants-held, itemOf, itemOf-is}
+use Rattle.matching.proofs.Holdings.{wants-held}
+use Rattle.matching.proofs.Crowds.{few-bidders}
 use Rattle.matching.proofs.Largest.{part-use, meets-use, wanting, excess-use, largest-excess}
 use Rattle.matching.proofs.Decomposition.{decompose}
 
@@ -37,28 +38,14 @@ hall-back d h mh all = go (largestExcess 32 64 d) (largest-excess 32 64 d .bound
     go : (x : ℕ) → x < 2 ^ 32 → excess 32 64 d x ≡ true → x ≡ 0
     go x small e = isSet-none 32 x small (λ i li. none i li (isSet x i) refl)
       where
-        crowd : ℕ → Bool
-        crowd b = wanting 32 d x x b
+        inside : (b : ℕ) → wanting 32 d x x b ≡ true → part 32 (getD d b 0) x ≡ true
+        inside b q = and-left (part 32 (getD d b 0) x) (meets 32 (getD d b 0) x) q
 
-        wants : (b : ℕ) → crowd b ≡ true → (i : ℕ) × (i < 32) × (isSet (getD d b 0) i ≡ true) × (isSet x i ≡ true)
-        wants b q = meets-use 32 (getD d b 0) x (and-right (part 32 (getD d b 0) x) (meets 32 (getD d b 0) x) q)
-
-        at : (b : ℕ) → b < 64 → crowd b ≡ true → (itemOf h b < 32) × (h (itemOf h b) ≡ b + 1)
-        at b lb q = let w = wants b q in let s = all b (w .0) lb (w .1) (w .2) in itemOf-is h b (s .0) (s .1) (s .2)
-
-        own : (b : ℕ) (lb : b < 64) (q : crowd b ≡ true) → isSet (getD d b 0) (itemOf h b) ≡ true
-        own b lb q = let a = at b lb q in wants-held d h (itemOf h b) b (mh .fair (itemOf h b) (a .0)) (a .1)
-
-        few : count 64 crowd ≤ count 32 (isSet x)
+        few : count 64 (wanting 32 d x x) ≤ count 32 (isSet x)
         few =
-            pigeonhole 64 32 crowd (isSet x) (itemOf h)
-            (record {
-              lands = λ b lb q. at b lb q .0;
-              hits = λ b lb q. part-use 32 (getD d b 0) x (and-left (part 32 (getD d b 0) x) (meets 32 (getD d b 0) x) q) (itemOf h b) (at b lb q .0) (own b lb q);
-              apart = λ b c lb lc p q e.
-                  let same : b + 1 ≡ c + 1 = sym (at b lb p .1) ∙ ap h e ∙ at c lc q .1 in
-                  omega arith;
-            })
+            few-bidders h (wanting 32 d x x) (isSet x)
+            (λ b lb q. let w = meets-use 32 (getD d b 0) x (and-right (part 32 (getD d b 0) x) (meets 32 (getD d b 0) x) q) in all b (w .0) lb (w .1) (w .2))
+            (λ b i lb li q e. part-use 32 (getD d b 0) x (inside b q) i li (wants-held d h i b (mh .fair i li) e))
 
         none : (i : ℕ) → i < 32 → (c : Bool) → isSet x i ≡ c → c ≡ false
         none i li false q = refl

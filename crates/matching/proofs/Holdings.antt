@@ -1,7 +1,7 @@
 -- Who holds what: how many items a bidder holds, which, and how that changes when an item is given away. Assumes nothing.
 use Prim.Native.Nat.{ℕ, zero, suc, _+_, _-_, _≤_, _<_}
 use mathlib.Core.Path.{_≡_, refl, _∙_, ap, sym}
-use mathlib.Core.Bool.{Bool, true, false, not}
+use mathlib.Core.Bool.{Bool, true, false}
 use mathlib.Core.Logic.{_⊎_, inl, inr}
 use mathlib.Core.List.{List}
 use native.Mathlib.Nat.{not-suc-le-zero}
@@ -13,8 +13,8 @@ use lib.Seq.{getD-set-same, getD-set-other}
 use borrow.Author.Tests.{eqb-true, eq-eqb, ne-eqb}
 use Rattle.sets.specs.Bit.{isSet}
 use Rattle.sets.specs.Count.{toNat, count}
-use Rattle.sets.proofs.Counting.{Least, least, count-cong, count-none, count-once, once-count, count-pos, count-witness, below-suc, not-both}
-use Rattle.matching.specs.Demand.{Fair, Matching}
+use Rattle.sets.proofs.Counting.{Least, least, count-cong, count-none, once-count, count-pos, count-witness, below-suc, not-both}
+use Rattle.matching.specs.Demand.{Fair}
 use Rattle.matching.specs.Chain.{held, Kept}
 
 pub no-both : {A : Type 0} {b : Bool} → b ≡ true → b ≡ false → A

@@ -58,7 +58,7 @@ excess-make m n ds s h =
     lt-ltb (count m (isSet t)) (count n (wanting m ds s t))
     (h t (w .0) (w .1) (w .2) (part-use m t s (and-right (anyBelow m (isSet t)) (part m t s) e))))
 
-pub empty-excess : (m n : ℕ) (ds : List ℕ) → excess m n ds 0 ≡ true
+empty-excess : (m n : ℕ) (ds : List ℕ) → excess m n ds 0 ≡ true
 empty-excess m n ds = excess-make m n ds 0 (λ t i l h sub. no-both (sub i l h) (isSet-empty i))
 
 -- ---- the largest

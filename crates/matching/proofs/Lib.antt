@@ -1,5 +1,6 @@
 -- What the proofs of the functions cite, and `Theorems`, what the floors above do.
 pub mod Holdings
+pub mod Crowds
 pub mod Steps
 pub mod Outcomes
 pub mod Largest

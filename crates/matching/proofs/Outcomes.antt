@@ -9,9 +9,9 @@ use lib.ListN.{getD, set}
 use lib.Seq.{getD-set-other}
 use Rattle.sets.specs.Bit.{isSet}
 use Rattle.sets.proofs.Members.{isSet-empty}
-use Rattle.matching.specs.Chain.{End, Kept, Sub, Within, Stuck, AllStuck, Closed, Least, Won, Failed, Placed, Taken}
+use Rattle.matching.specs.Chain.{End, Sub, Within, Stuck, AllStuck, Closed, Least, Won, Failed, Placed, Taken}
 use Rattle.matching.proofs.Holdings.{no-both}
-use Rattle.matching.proofs.Steps.{sub-refl, sub-trans, restOf, rest-has, Chosen, chosen-sub, won-free, won-may, won-step}
+use Rattle.matching.proofs.Steps.{sub-refl, sub-trans, restOf, rest-has, Chosen, chosen-sub, won-step}
 
 -- ---- the item side
 

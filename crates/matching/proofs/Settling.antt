@@ -8,7 +8,7 @@ use native.Mathlib.Decide.{ℕ-discrete}
 use native.Mathlib.Nat.{le-refl}
 use native.Mathlib.Omega.{arith}
 use lib.Dec.{eqb}
-use lib.ListN.{length, getD, replicate, length-replicate, getD-replicate}
+use lib.ListN.{getD, replicate, length-replicate, getD-replicate}
 use borrow.Author.Tests.{not-true, eq-eqb, ne-eqb}
 use Rattle.sets.specs.Bit.{isSet}
 use Rattle.sets.specs.Count.{toNat, anyBelow}
@@ -16,13 +16,9 @@ use Rattle.sets.proofs.Counting.{Least, least, and-left, and-right, and-both, a
 use Rattle.sets.proofs.Members.{isSet-empty}
 use Rattle.matching.specs.Demand.{Fair}
 use Rattle.matching.specs.Chain as C
-use Rattle.matching.specs.Chain.{held, Kept, Sub, Within, Stuck, AllStuck, Closed, Won, Failed, Spare, Settled}
+use Rattle.matching.specs.Chain.{held, Sub, Within, Stuck, AllStuck, Closed, Won, Failed, Spare, Settled}
 use Rattle.matching.proofs.Holdings.{no-both, holds-one, holds-none, holds-same, holder-is, wants-held, heldBy}
 use Rattle.matching.proofs.Outcomes.{stuck-mono}
-
--- a number up to b that is not b is below b
-pub below : (c b : ℕ) → c < b + 1 → (c ≡ b → ⊥) → c < b
-below c b l g = omega arith
 
 -- ---- the first bidder
 
@@ -78,10 +74,10 @@ settle-won d l n w b s v apart =
 
     placed : (c : ℕ) → (Sub (getD d c 0) w → ⊥) → Dec (c ≡ b) → c < b + 1 → 1 ≤ held n c
     placed c f (yes q) lc = omega (arith, v .least c (isSet-empty c), ap (λ (x : ℕ). toNat (eqb x b)) q, one-at b)
-    placed c f (no g) lc =
-        omega (arith, v .least c (isSet-empty c), s .placed c (below c b lc g) f)
+    placed c f (no g) lc = omega (arith, v .least c (isSet-empty c), s .placed c (omega arith) f)
 
--- ---- a failure
+-- ---- a failure: z is what is entered then. z is the least set that has w and what b wants, and with each item outside w what its holder
+-- wants; so nothing of z can be left out, and each part of z has a bidder that wants something there and holds nothing there
 
 module _ (d l : List ℕ) (w b : ℕ) (n : List ℕ) (z : ℕ) (lb : b < 64) (s : Settled d l w b)
     (v : Failed d 0 l w (getD d b 0) n z) (more : Sub w z) where
@@ -91,10 +87,11 @@ module _ (d l : List ℕ) (w b : ℕ) (n : List ℕ) (z : ℕ) (lb : b < 64) (s 
   -- f lies in z, and not in w
   module _ (f : ℕ → Bool) (i : ℕ) (li : i < 32) (fi : f i ≡ true) (sub : (k : ℕ) → k < 32 → f k ≡ true → isSet z k ≡ true)
       (new : (k : ℕ) → k < 32 → f k && isSet w k ≡ false) where
-    -- j lies in z, not in w and not in f, and its holder wants something in f
+    -- the bidder at place c wants k, an item of f
     abbrev meeting : ℕ → ℕ → Bool
     meeting c k = isSet (set c) k && f k
 
+    -- j lies in z, not in w and not in f, and its holder wants something in f
     abbrev reached : ℕ → Bool
     reached j = (isSet z j && not (isSet w j)) && (not (f j) && anyBelow 32 (meeting (getD l j 0 - 1)))
 
@@ -220,7 +217,7 @@ module _ (d l : List ℕ) (w b : ℕ) (n : List ℕ) (z : ℕ) (lb : b < 64) (s 
     where
       placed : (c : ℕ) → c < b + 1 → (Sub (getD d c 0) z → ⊥) → Dec (c ≡ b) → 1 ≤ held l c
       placed c lc f (yes q) = absurd (f (subst (λ (x : ℕ). Sub (getD d x 0) z) (sym q) (v .wants)))
-      placed c lc f (no g) = s .placed c (below c b lc g) (λ h. f (λ k lk i. more k lk (h k lk i)))
+      placed c lc f (no g) = s .placed c (omega arith) (λ h. f (λ k lk i. more k lk (h k lk i)))
 
   pub settle-failed : Settled d n z (b + 1)
   settle-failed = subst (λ (x : List ℕ). Settled d x z (b + 1)) (sym (v .still)) settled-here

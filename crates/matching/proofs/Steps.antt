@@ -2,7 +2,6 @@
 use Prim.Native.Nat.{ℕ, suc, _+_, _-_, _^_, _≤_, _<_}
 use mathlib.Core.Path.{_≡_, refl, _∙_, ap, sym, subst}
 use mathlib.Core.Bool.{Bool, true, false, _&&_, _||_, not}
-use mathlib.Core.Logic.{_⊎_, inl, inr}
 use mathlib.Core.List.{List}
 use native.Mathlib.Decide.{ℕ-discrete}
 use native.Mathlib.Omega.{arith}
@@ -12,10 +11,10 @@ use lib.Seq.{getD-set-same, getD-set-other}
 use borrow.Author.Tests.{not-true, eq-eqb, ne-eqb}
 use Rattle.sets.specs.Bit.{isSet, has, setOf, lowest}
 use Rattle.sets.specs.Count.{toNat}
-use Rattle.sets.proofs.Counting.{count-mono, count-less, and-left, and-right, and-both, or-right}
+use Rattle.sets.proofs.Counting.{count-mono, count-less, and-left, and-right, or-right}
 use Rattle.sets.proofs.Members.{isSet-setOf, setOf-lt}
 use Rattle.sets.proofs.Lowest.{lowest-found}
-use Rattle.matching.specs.Chain.{End, left, held, Kept, Filled, Sub, Within, Stuck, AllStuck, Closed, Least, Won, Failed, Placed, Taken}
+use Rattle.matching.specs.Chain.{left, held, Kept, Filled, Sub, Won}
 use Rattle.matching.proofs.Holdings.{no-both, eqb-suc, held-set, kept-set}
 
 -- ---- sets of items

@@ -1,4 +1,5 @@
 -- The laws that several proofs cite.
+pub mod Tests
 pub mod Counting
 pub mod Sums
 pub mod Bits
