@@ -7,7 +7,7 @@ use native.Mathlib.Omega.{arith}
 use lib.ListN.{length, getD, length-append}
 use lib.Seq.{sets}
 use borrow.Author.Tests.{le-leb, lt-leb}
-use Rattle.lines.specs.Lines.{hex, newline, joined, closingSheet, closingLength, writtenTo, writes, afterClosing}
+use Rattle.lines.specs.Lines.{hex, newline, joined, closingSheet, closingLength, writtenTo, writes, hasRoom, afterClosing}
 use Rattle.lines.proofs.Stores.{sets-then, sets-front}
 use Rattle.lines.proofs.Lengths.{rounds-length, line-length, by-lines, closing-length}
 
@@ -59,3 +59,23 @@ module _ (m n ups downs : ℕ) (prices options out : List ℕ) where
       ∙ ap (λ (vs : List ℕ). sets out 0 vs) (sym (by-lines m n ups downs prices options))
       ∙ sets-front out (closingSheet m n ups downs prices options) fits
       ∙ changed (enough m n (length out) l k h)
+
+-- ---- what is written if there is room for it
+
+pub left : (b : Bool) (new old : List ℕ) → b ≡ false → (false ≡ b) × (old ≡ cond b new old)
+left b new old e = (sym e, sym (ap (λ (x : Bool). cond x new old) e))
+
+pub done : (b : Bool) (new old after : List ℕ) → b ≡ true → after ≡ new → (true ≡ b) × (after ≡ cond b new old)
+done b new old after e q = (sym e, q ∙ sym (ap (λ (x : Bool). cond x new old) e))
+
+pub many-priced : (m at room : ℕ) → 32 < m → hasRoom m at room ≡ false
+unfolding hasRoom
+many-priced m at room l = simp (lt-leb m 32 l)
+
+pub short-priced : (m at room : ℕ) → m ≤ 32 → room < at + (4 * m + 1) → hasRoom m at room ≡ false
+unfolding hasRoom
+short-priced m at room l s = simp (le-leb m 32 l, lt-leb (at + (4 * m + 1)) room s)
+
+pub room-priced : (m at room : ℕ) → m ≤ 32 → at + (4 * m + 1) ≤ room → hasRoom m at room ≡ true
+unfolding hasRoom
+room-priced m at room l s = simp (le-leb m 32 l, le-leb (at + (4 * m + 1)) room s)

@@ -46,3 +46,11 @@ writes m n room = leb m 32 && leb n 64 && leb (closingLength m n) room
 unfoldable pub afterClosing : (m n ups downs : ℕ) (prices options out : List ℕ) → List ℕ
 afterClosing m n ups downs prices options out =
     cond (writes m n (length out)) (writtenTo out (closingSheet m n ups downs prices options)) out
+
+-- a line of prices of m items, 4 digits each
+unfoldable pub pricesLine : ℕ → List ℕ → List ℕ
+pricesLine m prices = joined m (λ k. hex 4 (getD prices k 0)) ++ newline
+
+-- there is room for it from a place on, and the items are at most 32
+unfoldable pub hasRoom : (m at room : ℕ) → Bool
+hasRoom m at room = leb m 32 && leb (at + (4 * m + 1)) room

@@ -1,11 +1,13 @@
 // Hexadecimal digits and the closing sheet's bytes.
 ghost use mathlib.Core.Path.{_≡_};
+ghost use mathlib.Core.Bool.{cond};
 ghost use mathlib.Core.List.{_++_};
 ghost use mathlib.Core.Option.{Option·getD};
 ghost use Prim.Native.Nat.{_+_, _*_, _≤_, _<_};
+ghost use lib.Dec.{leb};
 ghost use lib.ListN.{length, getD};
 ghost use lib.Seq.{sets};
-ghost use Rattle.lines.specs.Lines.{digit, hex, newline, joined, writes, afterClosing};
+ghost use Rattle.lines.specs.Lines.{digit, hex, newline, joined, pricesLine, hasRoom, writes, afterClosing};
 ghost use Rattle.lines.specs.Reading.{digitValue};
 
 // The value of a byte as a digit, and 16 where it is none: only 0 to 9 and a to f are digits.
@@ -124,5 +126,40 @@ pub fn write_closing(
     put_rounds(out, raised, lowered);
     put_prices(out, 13, m, prices);
     put_options(out, 14 + 4 * m, n, options);
+    true
+}
+
+// Writes x in so many digits from `at` on and answers true. Where there is no room it answers false and leaves `out` as it came.
+pub fn write_number(out: &mut [u8], at: usize, digits: usize, x: u32) -> bool
+    ensures { λ r. ⌜ (r ≡ leb (at + digits) (length (now (out .entry))))
+        × (now (out .exit) ≡ cond (leb (at + digits) (length (now (out .entry)))) (sets (now (out .entry)) at (hex digits x)) (now (out .entry))) ⌝ }
+{
+    if out.len() < digits {
+        return false;
+    }
+    if out.len() - digits < at {
+        return false;
+    }
+    put_number(out, at, digits, x);
+    true
+}
+
+// Writes a line of prices, 4 digits each, from `at` on and answers true. Where there is no room, or the count is beyond 32, it answers false
+// and leaves `out` as it came.
+pub fn write_prices(out: &mut [u8], at: usize, items: usize, prices: &[u16; 32]) -> bool
+    ensures { λ r. ⌜ (r ≡ hasRoom items at (length (now (out .entry))))
+        × (now (out .exit) ≡ cond (hasRoom items at (length (now (out .entry)))) (sets (now (out .entry)) at (pricesLine items (now (prices .entry)))) (now (out .entry))) ⌝ }
+{
+    if 32 < items {
+        return false;
+    }
+    let long = 4 * items + 1;
+    if out.len() < long {
+        return false;
+    }
+    if out.len() - long < at {
+        return false;
+    }
+    put_prices(out, at, items, prices);
     true
 }

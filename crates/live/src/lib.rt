@@ -337,12 +337,11 @@ impl Auction {
     fn cleared(self) -> Auction
         ensures { λ r. ⌜ r ≡ cleared self ⌝ }
     {
-        Auction {
-            sets: [0; 64],
-            nulls: 0,
-            reported: 0,
-            ..self
-        }
+        let mut next = self;
+        next.sets = [0; 64];
+        next.nulls = 0;
+        next.reported = 0;
+        next
     }
 
     // the phase is closed
@@ -552,17 +551,15 @@ impl Auction {
         ensures { λ r. ⌜ r ≡ record { ended = Moved Raised set; next = settled self (raised set) } ⌝ }
     {
         let prices = self.prices;
-        let next = round::raised(&prices, set);
+        let higher = round::raised(&prices, set);
+        let next = self.cleared();
         Step {
             ended: Ended::Moved(Kind::Raised, set),
             next: Auction {
-                prices: next,
-                sets: [0; 64],
-                nulls: 0,
-                reported: 0,
+                prices: higher,
                 phase: Phase::Rising,
                 raised: self.raised + 1,
-                ..self
+                ..next
             },
         }
     }
@@ -573,17 +570,15 @@ impl Auction {
         ensures { λ r. ⌜ r ≡ record { ended = Moved Lowered set; next = settled self (lowered set) } ⌝ }
     {
         let prices = self.prices;
-        let next = round::lowered(&prices, set);
+        let less = round::lowered(&prices, set);
+        let next = self.cleared();
         Step {
             ended: Ended::Moved(Kind::Lowered, set),
             next: Auction {
-                prices: next,
-                sets: [0; 64],
-                nulls: 0,
-                reported: 0,
+                prices: less,
                 phase: Phase::Falling,
                 lowered: self.lowered + 1,
-                ..self
+                ..next
             },
         }
     }
@@ -606,11 +601,11 @@ impl Auction {
         requires { ⌜ Calm self ⌝ }
         ensures { λ r. ⌜ (endingOf (r .ended) ≡ endAnswer self) × (r .next ≡ endNext self) ⌝ }
     {
-        let set = self.falling_set();
-        if set == 0 {
+        let falling = self.falling_set();
+        if falling == 0 {
             return self.closed();
         }
-        self.lowered_by(set)
+        self.lowered_by(falling)
     }
 
     // while rising: 17 where an item of the rising set cannot go up
@@ -700,7 +695,8 @@ impl Auction {
         if !self.well_formed() {
             return 11;
         }
-        if !self.is_closed() {
+        let closed = self.is_closed();
+        if !closed {
             return 15;
         }
         if !self.written(out) {

@@ -1,0 +1,71 @@
+-- `lines::write_prices` meets its contract. Assumes nothing.
+use Prim.Native.Nat.{ℕ, _+_, _*_, _≤_, _<_}
+use mathlib.Core.Path.{_≡_}
+use mathlib.Core.List.{List}
+use native.Mathlib.Omega.{arith}
+use lib.ListN.{length}
+use lib.Seq.{sets}
+use borrow.Author.Needs.{needs}
+use Rattle.lines.specs.Lines.{hasRoom, pricesLine}
+use Rattle.lines.proofs.Written.{left, done, many-priced, short-priced, room-priced}
+use Rattle.lines.proofs.write_prices.Statement.{statement}
+use Rattle.lines.proofs.write_prices.Tie as tie
+use Rattle.lines.proofs.write_prices.Reads as reads
+use Rattle.lines.proofs.write_prices.Lts as lts
+use Rattle.lines.proofs.put_prices.Reads as put-prices-reads
+
+returns : tie.Need-returns
+returns c =
+    let a = c .before .before .args in
+    let out : List ℕ = a .out .now in
+    left (hasRoom (a .items) (a .at) (length out)) (sets out (a .at) (pricesLine (a .items) (a .prices .now))) out (many-priced (a .items) (a .at) (length out) (c .if1 .taken))
+
+mul-long : tie.Need-mul-long
+mul-long c = search needs
+
+add-long : tie.Need-add-long
+add-long c = search needs
+
+returns-2 : tie.Need-returns-2
+returns-2 c =
+    let a = c .before .before .before .args in
+    let out : List ℕ = a .out .now in
+    left (hasRoom (a .items) (a .at) (length out)) (sets out (a .at) (pricesLine (a .items) (a .prices .now))) out (short-priced (a .items) (a .at) (length out) (omega arith) (omega arith))
+
+sub-if3 : tie.Need-sub-if3
+sub-if3 c = search needs
+
+returns-3 : tie.Need-returns-3
+returns-3 c =
+    let a = c .before .before .before .before .args in
+    let out : List ℕ = a .out .now in
+    left (hasRoom (a .items) (a .at) (length out)) (sets out (a .at) (pricesLine (a .items) (a .prices .now))) out (short-priced (a .items) (a .at) (length out) (omega arith) (omega arith))
+
+put-prices-requires : tie.Need-put-prices-requires
+put-prices-requires c κs = search needs
+
+same-length : tie.Need-same-length
+same-length c = search needs
+
+returns-4 : tie.Need-returns-4
+unfolding pricesLine
+returns-4 c =
+    let a = c .before .before .before .before .before .before .before .before .args in
+    let out : List ℕ = a .out .now in
+    let p = c .before .before .put-prices in
+    done (hasRoom (a .items) (a .at) (length out)) (sets out (a .at) (pricesLine (a .items) (a .prices .now))) out (p .last .0)
+    (room-priced (a .items) (a .at) (length out) (omega arith) (omega arith)) (p .ensures)
+
+pub write-prices-spec : {M : Type 1} → statement M
+write-prices-spec =
+    tie.close
+    (tie.spec
+    returns
+    mul-long
+    add-long
+    returns-2
+    sub-if3
+    returns-3
+    put-prices-requires
+    same-length
+    returns-4)
