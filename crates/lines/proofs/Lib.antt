@@ -8,3 +8,4 @@ pub mod Numbers
 pub mod Line
 pub mod ReadBack
 pub mod Same
+pub mod Walking

@@ -5,6 +5,8 @@ use mathlib.Core.List.{List, [], _∷_}
 use mathlib.Core.Option.{Option, none, some}
 use lib.Dec.{leb, eqb}
 use lib.ListN.{getD, getElem?}
+use Rattle.lines.specs.declared.Number.{Number}
+use Rattle.lines.specs.declared.Number.the-variants.{Is, Nothing}
 
 infixl 20 _>>=_
 -- what one reading gives goes to the next; none where one of them gives none
@@ -27,6 +29,15 @@ numberAt (suc n) bytes at = do
   x ← numberAt n bytes at
   d ← digitAt bytes (at + n)
   some (16 * x + d)
+
+-- the same of at most 8 digits, which a u32 holds
+unfoldable pub numberIn : ℕ → List ℕ → ℕ → Option ℕ
+numberIn n bytes at = cond (leb n 8) (numberAt n bytes at) none
+
+-- a number that was read, or none, as the code has it
+abbrev pub asNumber : Option ℕ → Number
+asNumber none = Nothing
+asNumber (some x) = Is x
 
 -- k numbers of n digits each, one after the other from a place on
 unfoldable pub numbersAt : (k n : ℕ) → List ℕ → ℕ → Option (List ℕ)

@@ -8,7 +8,7 @@ ghost use lib.Dec.{leb};
 ghost use lib.ListN.{length, getD};
 ghost use lib.Seq.{sets};
 ghost use Rattle.lines.specs.Lines.{digit, hex, newline, joined, pricesLine, hasRoom, writes, afterClosing};
-ghost use Rattle.lines.specs.Reading.{digitValue};
+ghost use Rattle.lines.specs.Reading.{digitValue, digitAt, numberIn, asNumber};
 
 // The value of a byte as a digit, and 16 where it is none: only 0 to 9 and a to f are digits.
 pub fn digit_value(byte: u8) -> u8
@@ -19,6 +19,47 @@ pub fn digit_value(byte: u8) -> u8
         b'a'..=b'f' => byte - b'a' + 10,
         _ => 16,
     }
+}
+
+// What stands in digits at a place, if all of them are digits.
+pub enum Number {
+    Is(u32),
+    Nothing,
+}
+
+// The digit at a place and so many further, and 16 where there is none.
+fn digit_at(s: &[u8], at: usize, further: usize) -> u8
+    requires { ⌜ further ≤ 8 ⌝ }
+    ensures { λ r. ⌜ r ≡ Option·getD (digitAt (now (s .entry)) (at + further)) 16 ⌝ }
+{
+    if s.len() <= at {
+        return 16;
+    }
+    let here = at + further;
+    if here < s.len() {
+        return digit_value(s[here]);
+    }
+    16
+}
+
+// The number in at most 8 digits from a place on; nothing where there are more digits to read than that.
+pub fn number_at(s: &[u8], at: usize, digits: usize) -> Number
+    ensures { λ r. ⌜ r ≡ asNumber (numberIn digits (now (s .entry)) at) ⌝ }
+{
+    if 8 < digits {
+        return Number::Nothing;
+    }
+    let mut x: u32 = 0;
+    let mut k: usize = 0;
+    while k < digits {
+        let d = digit_at(s, at, k);
+        if 15 < d {
+            return Number::Nothing;
+        }
+        x = 16 * x + (d as u32);
+        k += 1;
+    }
+    Number::Is(x)
 }
 
 // A digit's byte.

@@ -1,0 +1,49 @@
+-- `lines::digit_at` meets its contract. Assumes nothing.
+use Prim.Native.Nat.{ℕ, _+_, _≤_}
+use mathlib.Core.Path.{sym, ap, _∙_}
+use mathlib.Core.Option.{Option, Option·getD}
+use native.Mathlib.Omega.{arith}
+use lib.ListN.{length}
+use borrow.Author.Needs.{needs}
+use Rattle.lines.proofs.Walking.{digit-there, digit-beyond}
+use Rattle.lines.proofs.digit_at.Statement.{statement}
+use Rattle.lines.proofs.digit_at.Tie as tie
+use Rattle.lines.proofs.digit_at.Reads as reads
+use Rattle.lines.proofs.digit_at.Lts as lts
+use Rattle.lines.proofs.digit_value.Reads as digit-value-reads
+
+returns : tie.Need-returns
+returns c =
+    let a = c .before .before .args in
+    let l : length (a .s .now) ≤ a .at + a .further = omega arith in
+    ap (λ (o : Option ℕ). Option·getD o 16) (sym (digit-beyond (a .s .now) (a .at + a .further) l))
+
+add-here : tie.Need-add-here
+add-here c = search needs
+
+shared-slice-read-digit-value : tie.Need-shared-slice-read-digit-value
+shared-slice-read-digit-value c = search needs
+
+digit-value-requires : tie.Need-digit-value-requires
+digit-value-requires c κs = search needs
+
+returns-2 : tie.Need-returns-2
+returns-2 c =
+    let a = c .before .before .before .before .before .args in
+    c .digit-value .ensures ∙ ap (λ (o : Option ℕ). Option·getD o 16) (sym (digit-there (a .s .now) (a .at + a .further) (c .before .before .if2 .taken)))
+
+returns-3 : tie.Need-returns-3
+returns-3 c =
+    let a = c .before .before .before .args in
+    ap (λ (o : Option ℕ). Option·getD o 16) (sym (digit-beyond (a .s .now) (a .at + a .further) (c .if2 .left)))
+
+pub digit-at-spec : {M : Type 1} → statement M
+digit-at-spec =
+    tie.close
+    (tie.spec
+    returns
+    add-here
+    shared-slice-read-digit-value
+    digit-value-requires
+    returns-2
+    returns-3)
