@@ -3,24 +3,22 @@ use Prim.Native.Nat.{ℕ, suc, _+_, _-_, _≤_, _<_}
 use mathlib.Core.Path.{_≡_, refl, sym, ap, _∙_, subst, fun-ext}
 use mathlib.Core.Bool.{Bool, true, _&&_, _||_, not}
 use mathlib.Core.List.{List, [], _∷_, _++_, append-nil}
-use mathlib.Core.Logic.{_⊎_, inl, inr}
 use native.Mathlib.Omega.{arith}
 use native.Mathlib.Nat.{not-suc-le-zero}
 use native.Mathlib.Numerals.{add-one}
 use lib.Dec.{eqb}
-use lib.ListN.{length, getD, set, take, replicate, length-set, length-replicate, getD-replicate, List·getD-eq-default}
-use lib.Seq.{append-snoc, take-suc-set, getD-take, getD-set-other}
+use lib.ListN.{length, getD, set, replicate}
+use lib.Seq.{append-snoc}
 use Rattle.sets.specs.Bit.{has, setOf, lowest}
 use Rattle.sets.specs.Lists.{places}
-use Rattle.sets.proofs.Counting.{lt-or-le}
-use Rattle.sets.proofs.Lists.{is-tabulate}
-use Rattle.rule.specs.Assignment.{fits, someList, choose, assignment}
+use Rattle.rule.specs.Assignment.{option, fits, someList, choose, assignment}
 use Rattle.rule.proofs.Order.{Listed, listed, some-make, choose-passes}
 use Rattle.rule.proofs.Completion as R
 use Rattle.round.specs.Reports.{reports}
+use Rattle.round.proofs.Filling.{Filled, fill-start, fill-next, fill-places}
 use Rattle.round.proofs.Reporting.{reports-length}
 use Rattle.assignment.specs.Choice.{completed, nextOption, waitingAfter, takenBy, Begun}
-use Rattle.assignment.proofs.Waiting.{waiting-next, taken-none, taken-next, snoc-length}
+use Rattle.assignment.proofs.Waiting.{waiting-next, taken-none, taken-next, option-at, snoc-length}
 use Rattle.assignment.proofs.Choosing.{begun-of}
 
 -- the sets of who waits and what is taken, by equal ones
@@ -42,13 +40,11 @@ begun-none n sets nulls waiting l e =
     }
 
 module _ (n : ℕ) (sets : List ℕ) (nulls above : ℕ) where
-  -- the first b places have the options so far, the others zeros; those so far can be completed, and begin the names
+  -- the options so far fill the first b places; they can be completed, and begin the names
   pub record Going (out : List ℕ) (b waiting taken : ℕ) : Type 0 where
     pub most : b ≤ n
-    pub long : length out ≡ 64
-    pub zeros : (k : ℕ) → b ≤ k → getD out k 0 ≡ 0
+    pub filled : Filled 64 (λ k. getD (assignment 32 above (reports n sets nulls)) k 0) b out
     pub ys : List ℕ
-    pub same : take b out ≡ ys
     pub count : length ys ≡ b
     pub begun : Begun n sets nulls ys waiting taken
     pub possible : completed n sets nulls above ys ≡ true
@@ -59,10 +55,8 @@ module _ (n : ℕ) (sets : List ℕ) (nulls above : ℕ) where
   going-start waiting l e c =
       record {
         most = omega arith;
-        long = length-replicate {A = ℕ} 64 0;
-        zeros = λ k lk. zero-at k (lt-or-le k 64);
+        filled = fill-start 64 _;
         ys = [];
-        same = refl;
         count = refl;
         begun = begun-none n sets nulls waiting l e;
         possible = c;
@@ -71,10 +65,6 @@ module _ (n : ℕ) (sets : List ℕ) (nulls above : ℕ) where
     where
       all : length (reports n sets nulls) ≡ n → length (reports n sets nulls) ≡ n - 0
       all q = omega arith
-
-      zero-at : (k : ℕ) → (k < 64) ⊎ (64 ≤ k) → _≡_ {A = ℕ} (getD (replicate 64 0) k 0) 0
-      zero-at k (inl q) = getD-replicate 64 k 0 0 q
-      zero-at k (inr q) = List·getD-eq-default (replicate 64 0) 0 {n = k} (omega (arith, length-replicate {A = ℕ} 64 0))
 
   -- the next bidder's option is the rule's
   next-is : (ys : List ℕ) (j : ℕ) → length ys + suc j ≡ n → nextOption n sets nulls above ys ≡ R.nextOption 32 j (fits 32 above (reports n sets nulls)) ys
@@ -117,10 +107,8 @@ module _ (n : ℕ) (sets : List ℕ) (nulls above : ℕ) where
   going-next out b waiting taken g lb ln x ex later next el en =
       record {
         most = omega arith;
-        long = length-set out b x ∙ g .long;
-        zeros = λ k lk. getD-set-other out b k x 0 (λ q. omega arith) ∙ g .zeros k (omega arith);
+        filled = fill-next 64 _ b out x (g .filled) (omega arith) here;
         ys = g .ys ++ (x ∷ []);
-        same = ap (λ (k : ℕ). take k (set out b x)) (add-one b) ∙ take-suc-set out b x (omega (arith, g .long)) ∙ ap (λ (zs : List ℕ). zs ++ (x ∷ [])) (g .same);
         count = snoc-length (g .ys) x ∙ ap suc (g .count) ∙ sym (add-one b);
         begun = with-sets n sets nulls (g .ys ++ (x ∷ [])) (waitingAfter (length (g .ys ++ (x ∷ []))) n) (takenBy (g .ys ++ (x ∷ []))) later next waits takes
             (begun-of n sets nulls above (g .ys ++ (x ∷ [])) ln (omega (arith, snoc-length (g .ys) x, g .count)) possible);
@@ -128,9 +116,6 @@ module _ (n : ℕ) (sets : List ℕ) (nulls above : ℕ) where
         names = names;
       }
     where
-      j : ℕ
-      j = n - suc b
-
       split : length (g .ys) + suc (n - suc b) ≡ n
       split = omega (arith, g .count)
 
@@ -145,31 +130,33 @@ module _ (n : ℕ) (sets : List ℕ) (nulls above : ℕ) where
       takes : next ≡ takenBy (g .ys ++ (x ∷ []))
       takes = en ∙ ap (λ (s : ℕ). setOf 32 (λ k. has s k || eqb k x)) (g .begun .takes) ∙ taken-next (g .ys) x
 
-      names : assignment 32 above (reports n sets nulls) ≡ g .ys ++ (x ∷ []) ++ choose 32 (n - (b + 1)) (λ xs. fits 32 above (reports n sets nulls) (g .ys ++ (x ∷ []) ++ xs))
-      names =
+      after : List ℕ
+      after = choose 32 (n - suc b) (λ xs. fits 32 above (reports n sets nulls) (g .ys ++ (x ∷ []) ++ xs))
+
+      -- the names, with the option at place b
+      begin : assignment 32 above (reports n sets nulls) ≡ g .ys ++ x ∷ after
+      begin =
           let one : n - b ≡ suc (n - suc b) = omega arith in
-          let two : n - suc b ≡ n - (b + 1) = omega arith in
           g .names
           ∙ ap (λ (k : ℕ). g .ys ++ choose 32 k (λ xs. fits 32 above (reports n sets nulls) (g .ys ++ xs))) one
           ∙ ap (λ (zs : List ℕ). g .ys ++ zs) (next-names (g .ys) (n - suc b) split (g .possible))
           ∙ ap (λ (y : ℕ). g .ys ++ y ∷ choose 32 (n - suc b) (λ xs. fits 32 above (reports n sets nulls) (g .ys ++ (y ∷ []) ++ xs))) (sym ex)
-          ∙ sym (append-snoc (g .ys) x (choose 32 (n - suc b) (λ xs. fits 32 above (reports n sets nulls) (g .ys ++ (x ∷ []) ++ xs))))
-          ∙ ap (λ (k : ℕ). g .ys ++ (x ∷ []) ++ choose 32 k (λ xs. fits 32 above (reports n sets nulls) (g .ys ++ (x ∷ []) ++ xs))) two
+
+      here : x ≡ getD (assignment 32 above (reports n sets nulls)) b 0
+      here =
+          let at : getD (g .ys ++ x ∷ after) (length (g .ys)) 0 ≡ x = unfold option in option-at (g .ys) after x in
+          sym at ∙ ap (λ (k : ℕ). getD (g .ys ++ x ∷ after) k 0) (g .count) ∙ sym (ap (λ (zs : List ℕ). getD zs b 0) begin)
+
+      names : assignment 32 above (reports n sets nulls) ≡ g .ys ++ (x ∷ []) ++ choose 32 (n - (b + 1)) (λ xs. fits 32 above (reports n sets nulls) (g .ys ++ (x ∷ []) ++ xs))
+      names =
+          let two : n - suc b ≡ n - (b + 1) = omega arith in
+          begin ∙ sym (append-snoc (g .ys) x after) ∙ ap (λ (k : ℕ). g .ys ++ (x ∷ []) ++ choose 32 k (λ xs. fits 32 above (reports n sets nulls) (g .ys ++ (x ∷ []) ++ xs))) two
 
   pub going-end : (out : List ℕ) (b waiting taken : ℕ) (g : Going out b waiting taken) → n ≤ b → out ≡ places 64 (assignment 32 above (reports n sets nulls))
-  unfolding places
-  going-end out b waiting taken g l =
-      is-tabulate 64 out (λ k. getD (take b out) k 0) 0 (g .long) (λ k lk. at k (lt-or-le k b))
-      ∙ ap (places 64) (g .same ∙ sym all)
+  going-end out b waiting taken g l = fill-places 64 (assignment 32 above (reports n sets nulls)) b out (g .filled) (omega (arith, ap length all, g .count))
     where
       all : assignment 32 above (reports n sets nulls) ≡ g .ys
       all =
           let z : n - b ≡ 0 = omega arith in
-          g .names ∙ ap (λ (k : ℕ). g .ys ++ choose 32 k (λ xs. fits 32 above (reports n sets nulls) (g .ys ++ xs))) z ∙ (unfold choose in append-nil (g .ys))
-
-      at : (k : ℕ) → (k < b) ⊎ (b ≤ k) → getD out k 0 ≡ getD (take b out) (0 + k) 0
-      at k w = let e : k ≡ 0 + k = omega arith in go w ∙ ap (λ (i : ℕ). getD (take b out) i 0) e
-        where
-          go : (k < b) ⊎ (b ≤ k) → getD out k 0 ≡ getD (take b out) k 0
-          go (inl q) = sym (getD-take b out k 0 q)
-          go (inr q) = g .zeros k q ∙ sym (List·getD-eq-default (take b out) 0 {n = k} (omega (arith, q, ap length (g .same), g .count)))
+          let end : g .ys ++ choose 32 0 (λ xs. fits 32 above (reports n sets nulls) (g .ys ++ xs)) ≡ g .ys = unfold choose in append-nil (g .ys) in
+          g .names ∙ ap (λ (k : ℕ). g .ys ++ choose 32 k (λ xs. fits 32 above (reports n sets nulls) (g .ys ++ xs))) z ∙ end

@@ -3,17 +3,17 @@ use Prim.Native.Nat.{ℕ, zero, suc, _+_, _-_, _≤_, _<_}
 use mathlib.Core.Path.{_≡_, refl, sym, ap, _∙_}
 use mathlib.Core.Bool.{Bool, true, false}
 use mathlib.Core.List.{List, [], _∷_}
-use mathlib.Core.Logic.{_⊎_, inl, inr}
 use native.Mathlib.Omega.{arith}
-use lib.ListN.{length, getD, replicate, length-replicate, getD-replicate, List·getD-eq-default}
+use lib.ListN.{length, getD, replicate, length-replicate}
 use borrow.Author.Tests.{le-leb, lt-leb}
 use Rattle.sets.specs.Bit.{any}
 use Rattle.sets.specs.Lists.{places}
-use Rattle.sets.proofs.Counting.{lt-or-le, any-make, not-both, is-false}
+use Rattle.sets.proofs.Counting.{any-make, not-both, is-false}
 use Rattle.sets.proofs.Lists.{is-tabulate}
 use Rattle.sets.proofs.Lowest.{is-null, lowest-unique}
 use Rattle.rule.specs.Assignment.{fits, someList, choose, assignment}
 use Rattle.round.specs.Reports.{reports}
+use Rattle.round.proofs.Filling.{zeros-at}
 use Rattle.round.proofs.Reporting.{reports-length}
 use Rattle.assignment.specs.Assigned.{assigned}
 use Rattle.assignment.specs.Choice.{completed}
@@ -29,16 +29,9 @@ choose-none m (suc n) f e = ap (λ (i : ℕ). i ∷ choose m n (λ xs. f (i ∷ 
     off : (i : ℕ) → i < suc m → someList m n (λ xs. f (i ∷ xs)) ≡ false
     off i l = is-false (someList m n (λ xs. f (i ∷ xs))) (λ h. not-both (any m (λ i. someList m n (λ xs. f (i ∷ xs)))) (unfold any in any-make (suc m) (λ i. someList m n (λ xs. f (i ∷ xs))) i l h) (unfold any in e))
 
-zero-at : (n k : ℕ) → _≡_ {A = ℕ} (getD (replicate n 0) k 0) 0
-zero-at n k = go (lt-or-le k n)
-  where
-    go : (k < n) ⊎ (n ≤ k) → _≡_ {A = ℕ} (getD (replicate n 0) k 0) 0
-    go (inl l) = getD-replicate n k 0 0 l
-    go (inr l) = List·getD-eq-default (replicate n 0) 0 {n = k} (omega (arith, length-replicate {A = ℕ} n 0))
-
 places-zeros : (w n : ℕ) → replicate w 0 ≡ places w (replicate n 0)
 unfolding places
-places-zeros w n = is-tabulate w (replicate w 0) (λ k. getD (replicate n 0) k 0) 0 (length-replicate {A = ℕ} w 0) (λ k l. zero-at w k ∙ sym (zero-at n (0 + k)))
+places-zeros w n = is-tabulate w (replicate w 0) (λ k. getD (replicate n 0) k 0) 0 (length-replicate {A = ℕ} w 0) (λ k l. zeros-at w k ∙ sym (zeros-at n (0 + k)))
 
 -- ---- what the code answers
 

@@ -11,7 +11,7 @@ use lib.Seq.{getD-append-add}
 use borrow.Author.Tests.{ltb-true, leb-true, eqb-true, eqb-false, lt-ltb, le-leb, eq-eqb, ne-eqb, lt-leb}
 use Rattle.sets.specs.Bit.{has, setOf}
 use Rattle.sets.specs.Count.{anyBelow}
-use Rattle.sets.proofs.Counting.{lt-or-le, and-left, and-right, and-both, or-cases, or-left, or-right, not-is, any-use, any-make}
+use Rattle.sets.proofs.Counting.{lt-or-le, and-left, and-right, and-both, or-cases, or-left, or-right, not-both, not-is, is-false, any-use, any-make}
 use Rattle.sets.proofs.Members.{isSet-setOf, setOf-cong}
 use Rattle.rule.specs.Assignment.{option}
 use Rattle.round.proofs.Narrowing.{setOf-narrow}
@@ -66,11 +66,7 @@ pub waiting-all : (n : ℕ) → n ≤ 64 → setOf n (λ j. true) ≡ waitingAft
 unfolding waitingAfter
 waiting-all n l =
     setOf-cong n (λ j. true) (λ j. ltb 0 j && leb j n) (λ c lc. sym (and-both (ltb 0 (suc c)) (leb (suc c) n) (lt-ltb 0 (suc c) (omega arith)) (le-leb (suc c) n lc)))
-    ∙ sym (setOf-narrow n 64 (λ j. ltb 0 j && leb j n) l (λ c lo lc. both-false (ltb 0 (suc c)) (leb (suc c) n) (lt-leb (suc c) n (omega arith))))
-  where
-    both-false : (a b : Bool) → b ≡ false → a && b ≡ false
-    both-false true b e = e
-    both-false false b e = refl
+    ∙ sym (setOf-narrow n 64 (λ j. ltb 0 j && leb j n) l (λ c lo lc. is-false (ltb 0 (suc c) && leb (suc c) n) (λ h. not-both (leb (suc c) n) (and-right (ltb 0 (suc c)) (leb (suc c) n) h) (lt-leb (suc c) n (omega arith)))))
 
 -- ---- what is taken
 

@@ -27,7 +27,7 @@ waitingAfter b n = setOf 64 λ j. ltb b j && leb j n
 unfoldable pub takenBy : List ℕ → ℕ
 takenBy ys = setOf 32 λ i. anyBelow (length ys) λ a. eqb (option ys a) i
 
--- ys may be completed: each bidder so far has something of their demand, and no item goes to two. The sets say who waits and what is taken
+-- ys may be completed: each bidder so far has an option 0 to 32 of their demand, and no item goes to two. The sets say who waits and what is taken
 pub record Begun (n : ℕ) (sets : List ℕ) (nulls : ℕ) (ys : List ℕ) (waiting taken : ℕ) : Type 0 where
   pub most : n ≤ 64
   pub short : length ys ≤ n

@@ -3,20 +3,17 @@ use Prim.Native.Nat.{ℕ, zero, suc, _+_, _-_, _^_, _≤_, _<_}
 use mathlib.Core.Path.{_≡_, refl, sym, ap, ap₂, _∙_, subst}
 use mathlib.Core.Bool.{Bool, _&&_, _||_}
 use mathlib.Core.List.{List, _∷_}
-use mathlib.Core.Logic.{_⊎_, inl, inr}
 use native.Mathlib.Omega.{arith}
-use lib.ListN.{length, getD, set, replicate, length-set, length-replicate, getD-replicate, List·getD-eq-default}
-use lib.Seq.{getD-set-same, getD-set-other}
-use borrow.Author.Count.{below-none, below-more}
+use lib.ListN.{getD, set, replicate}
 use lib.Dec.{eqb, ltb}
 use Rattle.sets.specs.Bit.{has, setOf}
 use Rattle.sets.specs.Lists.{tabulate}
-use Rattle.sets.proofs.Counting.{lt-or-le}
 use Rattle.sets.proofs.Members.{setOf-lt, isSet-setOf}
 use Rattle.rule.specs.Sheet.{amount}
 use Rattle.rule.specs.Excess.{positive}
 use Rattle.rule.specs.Demand.{best, demand, demands}
 use Rattle.round.specs.Reports.{reports}
+use Rattle.round.proofs.Filling.{Filled, fill-start, fill-next}
 use Rattle.round.proofs.Adding.{add-next}
 use Rattle.round.proofs.Reporting.{map-tabulate}
 use Rattle.auction.specs.Lent.{lineOf, rowsOf}
@@ -33,27 +30,19 @@ module _ (m n : ℕ) (prices bids : List ℕ) where
   -- the first b bidders' demands are collected
   pub record Collected (sets : List ℕ) (nulls b : ℕ) : Type 0 where
     pub most : b ≤ n
-    pub long : length sets ≡ 64
-    pub done : (k : ℕ) → k < b → getD sets k 0 ≡ demand m prices (lineOf m bids k) .items
-    pub zeros : (k : ℕ) → b ≤ k → getD sets k 0 ≡ 0
+    pub filled : Filled 64 (λ k. demand m prices (lineOf m bids k) .items) b sets
     pub null : nulls ≡ setOf b (λ j. demand m prices (lineOf m bids (j - 1)) .null)
 
   pub collect-start : Collected (replicate 64 0) 0 0
   unfolding setOf
-  collect-start = record { most = omega arith; long = length-replicate {A = ℕ} 64 0; done = below-none _; zeros = λ k l. zero-at k (lt-or-le k 64); null = refl }
-    where
-      zero-at : (k : ℕ) → (k < 64) ⊎ (64 ≤ k) → _≡_ {A = ℕ} (getD (replicate 64 0) k 0) 0
-      zero-at k (inl q) = getD-replicate 64 k 0 0 q
-      zero-at k (inr q) = List·getD-eq-default (replicate 64 0) 0 {n = k} (omega (arith, length-replicate {A = ℕ} 64 0))
+  collect-start = record { most = omega arith; filled = fill-start 64 _; null = refl }
 
   pub collect-next : (sets : List ℕ) (nulls b : ℕ) → Collected sets nulls b → b < n → n ≤ 64 → (items : ℕ) → items ≡ demand m prices (lineOf m bids b) .items
       → (on : Bool) → on ≡ demand m prices (lineOf m bids b) .null → (next : ℕ) → next ≡ setOf 64 (λ k. has nulls k || (on && eqb k (b + 1))) → Collected (set sets b items) next (b + 1)
   collect-next sets nulls b t l ln items ei on eo next en =
       record {
         most = omega arith;
-        long = length-set sets b items ∙ t .long;
-        done = below-more _ _ (λ k lk. getD-set-other sets b k items 0 (λ q. omega arith) ∙ t .done k lk) (getD-set-same sets b items 0 (omega (arith, t .long)) ∙ ei);
-        zeros = λ k lk. getD-set-other sets b k items 0 (λ q. omega arith) ∙ t .zeros k (omega arith);
+        filled = fill-next 64 _ b sets items (t .filled) (omega arith) ei;
         null = add-next 64 (λ j. demand m prices (lineOf m bids (j - 1)) .null) b (omega arith) nulls on next (t .null) (eo ∙ own) en;
       }
     where
@@ -63,12 +52,12 @@ module _ (m n : ℕ) (prices bids : List ℕ) where
   pub collect-end : (sets : List ℕ) (nulls b : ℕ) → Collected sets nulls b → n ≤ b → m ≤ 32 → n ≤ 64 → Demanded m n prices bids sets nulls
   collect-end sets nulls b t l lm ln =
       record {
-        reported = record { max-items = lm; max-bidders = ln; small = small; idle = λ k lk. t .zeros k (omega (arith, lk, t .most)) };
+        reported = record { max-items = lm; max-bidders = ln; small = small; idle = λ k lk. t .filled .zeros k (omega (arith, lk, t .most)) };
         same = same;
       }
     where
       items-is : (k : ℕ) → k < n → getD sets k 0 ≡ demand m prices (lineOf m bids k) .items
-      items-is k lk = t .done k (omega arith)
+      items-is k lk = t .filled .done k (omega arith)
 
       null-is : (k : ℕ) → k < n → has nulls (suc k) ≡ demand m prices (lineOf m bids k) .null
       null-is k lk =

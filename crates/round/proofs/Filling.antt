@@ -1,22 +1,33 @@
 -- A list of w places that a loop fills one after the other. Assumes nothing.
 use Prim.Native.Nat.{ℕ, _+_, _≤_, _<_}
-use mathlib.Core.Path.{_≡_, ap, _∙_}
+use mathlib.Core.Path.{_≡_, sym, ap, _∙_}
 use mathlib.Core.List.{List}
+use mathlib.Core.Logic.{_⊎_, inl, inr}
 use native.Mathlib.Omega.{arith}
-use lib.ListN.{length, getD, set, length-set, length-replicate, replicate}
+use native.Mathlib.Nat.{zero-add}
+use lib.ListN.{length, getD, set, length-set, length-replicate, replicate, getD-replicate, List·getD-eq-default}
 use lib.Seq.{getD-set-same, getD-set-other}
 use borrow.Author.Count.{below-none, below-more}
-use Rattle.sets.specs.Lists.{tabulate}
+use Rattle.sets.specs.Lists.{tabulate, places}
+use Rattle.sets.proofs.Counting.{lt-or-le}
 use Rattle.sets.proofs.Lists.{is-tabulate}
 
--- the places below i have what f says
+pub zeros-at : (n k : ℕ) → _≡_ {A = ℕ} (getD (replicate n 0) k 0) 0
+zeros-at n k = go (lt-or-le k n)
+  where
+    go : (k < n) ⊎ (n ≤ k) → _≡_ {A = ℕ} (getD (replicate n 0) k 0) 0
+    go (inl l) = getD-replicate n k 0 0 l
+    go (inr l) = List·getD-eq-default (replicate n 0) 0 {n = k} (omega (arith, length-replicate {A = ℕ} n 0))
+
+-- the places below i have what f says, and the others zeros
 pub record Filled (w : ℕ) (f : ℕ → ℕ) (i : ℕ) (xs : List ℕ) : Type 0 where
   pub most : i ≤ w
   pub long : length xs ≡ w
   pub done : (k : ℕ) → k < i → getD xs k 0 ≡ f k
+  pub zeros : (k : ℕ) → i ≤ k → getD xs k 0 ≡ 0
 
 pub fill-start : (w : ℕ) (f : ℕ → ℕ) → Filled w f 0 (replicate w 0)
-fill-start w f = record { most = omega arith; long = length-replicate {A = ℕ} w 0; done = below-none _ }
+fill-start w f = record { most = omega arith; long = length-replicate {A = ℕ} w 0; done = below-none _; zeros = λ k l. zeros-at w k }
 
 pub fill-next : (w : ℕ) (f : ℕ → ℕ) (i : ℕ) (xs : List ℕ) (v : ℕ) → Filled w f i xs → i < w → v ≡ f i → Filled w f (i + 1) (set xs i v)
 fill-next w f i xs v t l e =
@@ -25,10 +36,17 @@ fill-next w f i xs v t l e =
       most = omega arith;
       long = length-set xs i v ∙ long;
       done = below-more _ _ (λ k lk. getD-set-other xs i k v 0 (λ q. omega arith) ∙ t .done k lk) (getD-set-same xs i v 0 (omega arith) ∙ e);
+      zeros = λ k lk. getD-set-other xs i k v 0 (λ q. omega arith) ∙ t .zeros k (omega arith);
     }
 
 pub fill-end : (w : ℕ) (f : ℕ → ℕ) (i : ℕ) (xs : List ℕ) → Filled w f i xs → w ≤ i → xs ≡ tabulate w f 0
-fill-end w f i xs t l = is-tabulate w xs f 0 (t .long) (λ k lk. t .done k (omega arith) ∙ ap f (zero-back k))
+fill-end w f i xs t l = is-tabulate w xs f 0 (t .long) (λ k lk. t .done k (omega arith) ∙ ap f (sym (zero-add k)))
+
+-- the list ends where the filling does
+pub fill-places : (w : ℕ) (ys : List ℕ) (i : ℕ) (xs : List ℕ) → Filled w (λ k. getD ys k 0) i xs → length ys ≤ i → xs ≡ places w ys
+unfolding places
+fill-places w ys i xs t l = is-tabulate w xs (λ k. getD ys k 0) 0 (t .long) (λ k lk. at k (lt-or-le k i) ∙ ap (λ (j : ℕ). getD ys j 0) (sym (zero-add k)))
   where
-    zero-back : (k : ℕ) → k ≡ 0 + k
-    zero-back k = omega arith
+    at : (k : ℕ) → (k < i) ⊎ (i ≤ k) → getD xs k 0 ≡ getD ys k 0
+    at k (inl q) = t .done k q
+    at k (inr q) = t .zeros k q ∙ sym (List·getD-eq-default ys 0 {n = k} (omega arith))

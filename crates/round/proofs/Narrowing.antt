@@ -11,7 +11,7 @@ use lib.Dec.{ltb}
 use lib.ListN.{length, getD, length-map, List·getD-eq-default}
 use lib.Pow.{pow-mono}
 use Rattle.sets.specs.Bit.{isSet, has, setOf}
-use Rattle.sets.proofs.Counting.{lt-or-le}
+use Rattle.sets.proofs.Counting.{lt-or-le, and-right, not-both, is-false}
 use Rattle.sets.proofs.Members.{isSet-above, empty-has, has-past, setOf-lt, isSet-setOf, is-setOf}
 use Rattle.rule.specs.Sheet.{amount}
 use Rattle.rule.specs.Demand.{Demand, nth}
@@ -72,14 +72,10 @@ module _ (m n : ℕ) (sets : List ℕ) (r : Reported m n sets) (nulls : ℕ) whe
   -- ---- the falling set
 
   module _ (above : ℕ) (la : above < 2 ^ m) where
-    both-false : (a b : Bool) → b ≡ false → a && b ≡ false
-    both-false true b e = e
-    both-false false b e = refl
-
     inside-narrow : (d : Demand) → inside 32 above d ≡ inside m above d
     unfolding inside
     inside-narrow d =
-        setOf-narrow m 32 (λ i. has (d .items) i && has above i) (r .max-items) (λ k l lk. both-false (has (d .items) (suc k)) (has above (suc k)) (has-past m above (suc k) la (omega arith)))
+        setOf-narrow m 32 (λ i. has (d .items) i && has above i) (r .max-items) (λ k l lk. is-false (has (d .items) (suc k) && has above (suc k)) (λ h. not-both (has above (suc k)) (and-right (has (d .items) (suc k)) (has above (suc k)) h) (has-past m above (suc k) la (omega arith))))
 
     inside-none : (said : Bool) → inside 32 above (record { null = said; items = 0 }) ≡ 0
     unfolding inside setOf

@@ -1,4 +1,4 @@
--- `assignment::completes` meets its contract. Assumes nothing.
+-- `assignment::completes` meets its contract. It asks for a cover of what is left, and the matching finds one exactly where a completion exists. Assumes nothing.
 use lib.ListN.{getD}
 use Rattle.assignment.proofs.Completing.{completed-is}
 use borrow.Author.Needs.{needs}

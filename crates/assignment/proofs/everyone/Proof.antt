@@ -1,4 +1,4 @@
--- `assignment::everyone` meets its contract. Assumes nothing.
+-- `assignment::everyone` meets its contract. Each turn adds one bidder. Assumes nothing.
 use Prim.Native.Nat.{_-_, _≤_}
 use mathlib.Core.Path.{_≡_, refl, _∙_}
 use mathlib.Core.Bool.{true}

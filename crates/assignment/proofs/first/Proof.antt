@@ -1,4 +1,4 @@
--- `assignment::first` meets its contract. Assumes nothing.
+-- `assignment::first` meets its contract. Where nothing completes from the start, the names are zeros too. Assumes nothing.
 use mathlib.Core.Path.{sym, _∙_}
 use mathlib.Core.List.{[]}
 use borrow.Author.Tests.{not-true, not-false}

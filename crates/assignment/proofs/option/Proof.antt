@@ -1,4 +1,4 @@
--- `assignment::option` meets its contract. Assumes nothing.
+-- `assignment::option` meets its contract. No item passed so far works, so the first that does is the lowest. Assumes nothing.
 use Prim.Native.Nat.{ℕ, _-_, _≤_, _<_}
 use mathlib.Core.Path.{_≡_, sym, _∙_}
 use mathlib.Core.Bool.{false}

@@ -1,4 +1,4 @@
--- `assignment::options` meets its contract. Assumes nothing.
+-- `assignment::options` meets its contract. The options so far fill their places, can be completed, and begin the names. Assumes nothing.
 use Prim.Native.Nat.{_-_}
 use Rattle.assignment.proofs.Assigning.{Going, going-start, going-next, going-end}
 use borrow.Author.Needs.{needs}

@@ -1,4 +1,4 @@
--- `assignment::works` meets its contract. Assumes nothing.
+-- `assignment::works` meets its contract. An item that is not demanded, or is taken, completes nothing. Assumes nothing.
 use mathlib.Core.Path.{sym, _∙_}
 use mathlib.Core.List.{[], _∷_, _++_}
 use borrow.Author.Tests.{not-true, not-false}

@@ -1,4 +1,4 @@
--- `auction::demand_of` meets its contract. Assumes nothing.
+-- `auction::demand_of` meets its contract. The items so far are those of the highest surplus. Assumes nothing.
 use Prim.Native.Nat.{_-_, _≤_}
 use mathlib.Core.Path.{_≡_, refl}
 use native.Mathlib.Omega.{arith}

@@ -1,4 +1,4 @@
--- `auction::demands_at` meets its contract. Assumes nothing.
+-- `auction::demands_at` meets its contract. Each turn collects one bidder's demand. Assumes nothing.
 use Prim.Native.Nat.{ℕ, _-_}
 use mathlib.Core.Path.{ap, _∙_}
 use mathlib.Core.List.{List}

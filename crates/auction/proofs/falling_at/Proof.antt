@@ -1,4 +1,4 @@
--- `auction::falling_at` meets its contract. Assumes nothing.
+-- `auction::falling_at` meets its contract. The reports are the demands, and nothing is demanded past the counts. Assumes nothing.
 use Prim.Native.Nat.{ℕ, _^_, _<_}
 use mathlib.Core.Path.{sym, ap₂, _∙_, subst}
 use Rattle.rule.specs.Excess.{excessSupply}

@@ -1,4 +1,4 @@
--- `auction::highest` meets its contract. Assumes nothing.
+-- `auction::highest` meets its contract. The top so far is the highest of the options passed. Assumes nothing.
 use Prim.Native.Nat.{ℕ, _+_, _-_, _≤_}
 use mathlib.Core.Path.{_≡_, sym, subst}
 use native.Mathlib.Omega.{arith}

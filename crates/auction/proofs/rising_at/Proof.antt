@@ -1,4 +1,4 @@
--- `auction::rising_at` meets its contract. Assumes nothing.
+-- `auction::rising_at` meets its contract. The reports are the demands, and nothing is demanded past the counts. Assumes nothing.
 use mathlib.Core.Path.{ap, _∙_}
 use Rattle.rule.specs.Excess.{excessDemand}
 use Rattle.round.proofs.Narrowing.{rising-narrow}

@@ -1,4 +1,4 @@
--- `auction::rounds` meets its contract. Assumes nothing.
+-- `auction::rounds` meets its contract. The same from the turn to the close. Assumes nothing.
 use Prim.Native.Nat.{_-_}
 use mathlib.Core.Path.{_≡_}
 use native.Mathlib.Omega.{arith}

@@ -1,4 +1,4 @@
--- `auction::sealed` meets its contract. Assumes nothing.
+-- `auction::sealed` meets its contract. The steps' answers make up the close of the sheet's path, which promises all that demand 3 asks. Assumes nothing.
 use mathlib.Core.Path.{sym, _∙_}
 use Rattle.auction.specs.Lent.{sheetOf}
 use Rattle.auction.specs.Sealed.{refused}

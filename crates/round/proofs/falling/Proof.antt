@@ -1,4 +1,4 @@
--- `round::falling` meets its contract. Assumes nothing.
+-- `round::falling` meets its contract. What it hands to the matching is what the rule asks of the reports. Assumes nothing.
 use borrow.Author.Needs.{needs}
 use Rattle.round.proofs.Reporting.{falling-found}
 use Rattle.round.proofs.falling.Statement.{statement}

@@ -1,4 +1,4 @@
--- `round::in_places` meets its contract. Assumes nothing.
+-- `round::in_places` meets its contract. Each turn fills one place. Assumes nothing.
 use Prim.Native.Nat.{_-_}
 use mathlib.Core.Path.{_∙_}
 use lib.ListN.{getD}

@@ -1,4 +1,4 @@
--- `round::inside` meets its contract. Assumes nothing.
+-- `round::inside` meets its contract. Each turn fills one place. Assumes nothing.
 use Prim.Native.Nat.{_-_}
 use mathlib.Core.Bool.{_&&_}
 use lib.ListN.{getD}

@@ -1,4 +1,4 @@
--- `round::lowered` meets its contract. Assumes nothing.
+-- `round::lowered` meets its contract. Each turn fills one place. Assumes nothing.
 use Prim.Native.Nat.{_+_, _-_}
 use mathlib.Core.Path.{ap, _∙_}
 use mathlib.Core.Bool.{Bool}

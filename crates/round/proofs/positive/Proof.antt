@@ -1,4 +1,4 @@
--- `round::positive` meets its contract. Assumes nothing.
+-- `round::positive` meets its contract. Each turn adds one item, if its price is above 0. Assumes nothing.
 use Prim.Native.Nat.{_-_, _≤_}
 use mathlib.Core.Path.{_≡_, refl, sym, ap}
 use native.Mathlib.Omega.{arith}

@@ -1,4 +1,4 @@
--- `round::raised` meets its contract. Assumes nothing.
+-- `round::raised` meets its contract. Each turn fills one place. Assumes nothing.
 use Prim.Native.Nat.{_+_, _-_, min}
 use mathlib.Core.Path.{ap, _∙_}
 use mathlib.Core.Bool.{Bool}

@@ -1,4 +1,4 @@
--- `round::rising` meets its contract. Assumes nothing.
+-- `round::rising` meets its contract. What it hands to the matching is what the rule asks of the reports. Assumes nothing.
 use borrow.Author.Needs.{needs}
 use Rattle.round.proofs.Reporting.{rising-found}
 use Rattle.round.proofs.rising.Statement.{statement}
