@@ -1,0 +1,4 @@
+pub mod Copying
+pub mod Lent
+pub mod Accepted
+pub mod Results

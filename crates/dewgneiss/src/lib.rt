@@ -1,0 +1,129 @@
+// The sealed auction and the sheets for Rust or C to link: a slice is passed as its address and its length.
+ghost use mathlib.Core.Path.{_≡_};
+ghost use mathlib.Core.List.{[], _∷_};
+ghost use Prim.Native.Nat.{_≤_};
+ghost use lib.ListN.{length};
+ghost use Rattle.sets.specs.Lists.{places};
+ghost use Rattle.auction.specs.Sealed.{sealedOf};
+ghost use Rattle.sheet.specs.Close.{sheetRefusal, closedTo, byNumber};
+ghost use Rattle.dewgneiss.specs.Lent.{unfit, lentRefusal, withLengths};
+
+// Copies the first prices, as many as there are places.
+fn put_prices(out: &mut [u16], prices: &[u16; 32])
+    requires { ⌜ length (now out) ≤ 32 ⌝ }
+    ensures { λ _. ⌜ now (out .exit) ≡ places (length (now (out .entry))) (now (prices .entry)) ⌝ }
+{
+    let n = out.len();
+    let mut i: usize = 0;
+    while i < n {
+        out[i] = prices[i];
+        i += 1;
+    }
+}
+
+// Copies the first bidders' options.
+fn put_options(out: &mut [u8], options: &[u8; 64])
+    requires { ⌜ length (now out) ≤ 64 ⌝ }
+    ensures { λ _. ⌜ now (out .exit) ≡ places (length (now (out .entry))) (now (options .entry)) ⌝ }
+{
+    let n = out.len();
+    let mut b: usize = 0;
+    while b < n {
+        out[b] = options[b];
+        b += 1;
+    }
+}
+
+// Whether the lists lent for the results are not exact.
+fn unfit(items: u32, bidders: u32, rounds: &[u32], prices: &[u16], options: &[u8]) -> bool
+    ensures { λ r. ⌜ r ≡ unfit items bidders (now (rounds .entry)) (now (prices .entry)) (now (options .entry)) ⌝ }
+{
+    if rounds.len() != 2 {
+        return true;
+    }
+    if prices.len() != items as usize {
+        return true;
+    }
+    if options.len() != bidders as usize {
+        return true;
+    }
+    false
+}
+
+// The number of the auction itself, and 3 in its place.
+fn with_lengths(why: u8, unfit: bool) -> u8
+    ensures { λ r. ⌜ r ≡ withLengths why unfit ⌝ }
+{
+    if why == 1 {
+        return why;
+    }
+    if why == 2 {
+        return why;
+    }
+    if unfit {
+        return 3;
+    }
+    why
+}
+
+// The rounds raised and lowered.
+fn put_rounds(out: &mut [u32], raised: u32, lowered: u32)
+    requires { ⌜ length (now out) ≡ 2 ⌝ }
+    ensures { λ _. ⌜ now (out .exit) ≡ raised ∷ lowered ∷ [] ⌝ }
+{
+    out[0] = raised;
+    out[1] = lowered;
+}
+
+// An outcome, into lists that fit it.
+fn put_closing(c: auction::Closing, rounds: &mut [u32], prices: &mut [u16], options: &mut [u8])
+    requires { ⌜ (length (now rounds) ≡ 2) × (length (now prices) ≤ 32) × (length (now options) ≤ 64) ⌝ }
+    ensures { λ _. ⌜ (now (rounds .exit) ≡ c .raised ∷ c .lowered ∷ [])
+        × (now (prices .exit) ≡ places (length (now (prices .entry))) (c .prices))
+        × (now (options .exit) ≡ places (length (now (options .entry))) (c .assignment)) ⌝ }
+{
+    let closing = c.prices;
+    let names = c.assignment;
+    put_rounds(rounds, c.raised, c.lowered);
+    put_prices(prices, &closing);
+    put_options(options, &names);
+}
+
+// The sealed auction: starting prices, one for each item, and bids, bidder after bidder. Answers 0 and leaves rounds raised and lowered, the
+// closing prices and each bidder's item, or 0 for null, in the lent lists; or answers the number that turns the call down, and leaves them as
+// they came.
+#[no_mangle]
+pub extern "C" fn dewgneiss_sealed(
+    items: u32,
+    bidders: u32,
+    start: &[u16],
+    bids: &[u16],
+    rounds: &mut [u32],
+    prices: &mut [u16],
+    options: &mut [u8],
+) -> u8
+    ensures number { λ r. ⌜ r ≡ lentRefusal items bidders (now (start .entry)) (now (bids .entry)) (now (rounds .entry)) (now (prices .entry)) (now (options .entry)) ⌝ }
+    ensures rounds { λ r. ⌜ now (rounds .exit) ≡ byNumber r
+        (sealedOf items bidders (now (start .entry)) (now (bids .entry)) .raised ∷ sealedOf items bidders (now (start .entry)) (now (bids .entry)) .lowered ∷ [])
+        (now (rounds .entry)) ⌝ }
+    ensures prices { λ r. ⌜ now (prices .exit) ≡ byNumber r (places items (sealedOf items bidders (now (start .entry)) (now (bids .entry)) .prices)) (now (prices .entry)) ⌝ }
+    ensures options { λ r. ⌜ now (options .exit) ≡ byNumber r (places bidders (sealedOf items bidders (now (start .entry)) (now (bids .entry)) .assignment)) (now (options .entry)) ⌝ }
+{
+    let c = auction::sealed(items, bidders, start, bids);
+    let why = with_lengths(c.refusal, unfit(items, bidders, rounds, prices, options));
+    if why != 0 {
+        return why;
+    }
+    put_closing(c, rounds, prices, options);
+    0
+}
+
+// Closes a bid sheet: writes the closing sheet to the front of `out` and answers 0, or answers the number that turns the sheet down and leaves
+// `out` as it came.
+#[no_mangle]
+pub extern "C" fn dewgneiss_close_sheet(bytes: &[u8], out: &mut [u8]) -> u8
+    ensures { λ r. ⌜ (r ≡ sheetRefusal (now (bytes .entry)) (length (now (out .entry))))
+        × (now (out .exit) ≡ closedTo (now (bytes .entry)) (now (out .entry))) ⌝ }
+{
+    sheet::close_sheet(bytes, out)
+}
