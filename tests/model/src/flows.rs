@@ -283,9 +283,18 @@ pub fn first_assignment(demands: &[Demand], must: u32) -> Option<Vec<u8>> {
 
 /// The sealed auction of a sheet within the limits.
 pub fn close(sheet: &Sheet) -> Closing {
-    let path = path(sheet);
+    close_after(sheet, &path(sheet))
+}
+
+/// The close after the sheet's rounds.
+pub fn close_after(sheet: &Sheet, path: &[Round]) -> Closing {
     let prices = path.last().map_or(sheet.start.clone(), |r| r.prices.clone());
     let names = first_assignment(&demands(sheet, &prices), above_zero(&prices)).expect("some assignment fits at the close");
     let raised = path.iter().filter(|r| r.kind == Kind::Raised).count();
     Closing { raised: raised as u32, lowered: (path.len() - raised) as u32, prices, names }
+}
+
+/// The prices at the turn of the sheet's rounds.
+pub fn turn(sheet: &Sheet, path: &[Round]) -> Vec<u16> {
+    path.iter().rev().find(|r| r.kind == Kind::Raised).map_or(sheet.start.clone(), |r| r.prices.clone())
 }

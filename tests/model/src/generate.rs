@@ -26,7 +26,7 @@ pub enum Shape {
     High,
     /// Any amounts up to 4,095, starting prices near what comes out.
     Mixed,
-    /// Any amounts up to 4,095 from any start: thousands of rounds.
+    /// Any amounts up to 4,095 from any start: thousands of rounds. Few items and bidders, and now and then 32 by 64.
     Long,
 }
 
@@ -53,6 +53,7 @@ pub fn sheet(shape: Shape, r: &mut Random) -> Sheet {
         Shape::Small => (r.within(1, 4), r.within(1, 5)),
         Shape::Large => (r.within(1, ITEMS), r.within(1, BIDDERS)),
         Shape::Ring => (r.within(2, 16), r.within(1, 24)),
+        Shape::Long if r.one_in(30) => (ITEMS, BIDDERS),
         Shape::Long => (r.within(1, 6), r.within(1, 9)),
         _ if r.one_in(8) => (r.within(1, ITEMS), r.within(1, BIDDERS)),
         _ => (r.within(1, 8), r.within(1, 12)),

@@ -4,7 +4,7 @@ use model::flows::{self, Demand};
 use model::generate::{sheet, Shape, SHAPES};
 use model::literal::{self, Options};
 use model::random::Random;
-use model::{totals, Kind, Sheet};
+use model::{totals, Sheet};
 
 /// The options of a demand, as the literal rule has them.
 fn options(d: &Demand) -> Options {
@@ -73,10 +73,9 @@ fn small_sheets_by_the_letter_and_by_closure() {
 /// Turn and close without rounds; the counts as largest rise and fall; the total that nothing beats.
 fn holds_totals(s: &Sheet) {
     let path = flows::path(s);
-    let closing = flows::close(s);
+    let closing = flows::close_after(s, &path);
     let (turn, close) = totals::turn_and_close(s);
-    let last_raised = path.iter().rev().find(|round| round.kind == Kind::Raised);
-    assert_eq!(turn, last_raised.map_or(s.start.clone(), |round| round.prices.clone()), "{s:?}");
+    assert_eq!(turn, flows::turn(s, &path), "{s:?}");
     assert_eq!(close, closing.prices, "{s:?}");
     assert_eq!(totals::rounds(s, &turn, &close), (closing.raised, closing.lowered), "{s:?}");
     assert_eq!(totals::total(s, &closing.names), totals::best(s), "{s:?}");

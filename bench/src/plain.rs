@@ -1,0 +1,154 @@
+//! The proved code's algorithms once more in plain Rust, as a programmer would write them: a demand pass, augmenting chains with
+//! the entered items of failed chains kept, and the first assignment by asking for covers.
+
+/// The bidder side of a chain: the lowest item not yet entered, and on failure the next. `may` are bidders who can go without.
+fn place(holder: &mut [u8; 32], entered: &mut u32, demand: &[u32; 64], may: u64, bidder: usize) -> bool {
+    loop {
+        let rest = demand[bidder] & !*entered;
+        if rest == 0 {
+            return false;
+        }
+        let item = rest.trailing_zeros() as usize;
+        *entered |= 1 << item;
+        if take(holder, entered, demand, may, item, bidder) {
+            return true;
+        }
+    }
+}
+
+/// The item side: free, or its holder may go without, or its holder finds another.
+fn take(holder: &mut [u8; 32], entered: &mut u32, demand: &[u32; 64], may: u64, item: usize, bidder: usize) -> bool {
+    let held = holder[item];
+    let freed = held == 0 || may >> (held - 1) & 1 == 1 || place(holder, entered, demand, may, held as usize - 1);
+    if freed {
+        holder[item] = bidder as u8 + 1;
+    }
+    freed
+}
+
+fn settle(holder: &mut [u8; 32], demand: &[u32; 64]) -> u32 {
+    let mut kept = 0;
+    for bidder in 0..64 {
+        let mut entered = kept;
+        if !place(holder, &mut entered, demand, 0, bidder) {
+            kept = entered;
+        }
+    }
+    kept
+}
+
+/// The largest set in excess demand.
+#[inline(never)]
+pub fn excess_demand(demand: &[u32; 64]) -> u32 {
+    settle(&mut [0; 32], demand)
+}
+
+/// Whether some match places each of the bidders and gives out each of the items.
+#[inline(never)]
+pub fn covers(demand: &[u32; 64], bidders: u64, items: u32) -> bool {
+    let mut holder = [0; 32];
+    settle(&mut holder, &demand.map(|d| d & items));
+    if (0..32).any(|i| items >> i & 1 == 1 && holder[i] == 0) {
+        return false;
+    }
+    (0..64).all(|b| {
+        let placed = bidders >> b & 1 == 0 || holder.contains(&(b as u8 + 1));
+        placed || place(&mut holder, &mut 0, demand, !bidders, b)
+    })
+}
+
+struct Demands {
+    items: [u32; 64],
+    nulls: u64,
+}
+
+fn demands(prices: &[u16; 32], bids: &[u16], items: usize) -> Demands {
+    let mut all = Demands { items: [0; 64], nulls: 0 };
+    for (b, line) in bids.chunks_exact(items).enumerate() {
+        let surplus = |(&bid, &price): (&u16, &u16)| i32::from(bid) - i32::from(price);
+        let highest = line.iter().zip(prices).map(surplus).max().unwrap_or(0).max(0);
+        for (i, pair) in line.iter().zip(prices).enumerate() {
+            all.items[b] |= u32::from(surplus(pair) == highest) << i;
+        }
+        all.nulls |= u64::from(highest == 0) << b;
+    }
+    all
+}
+
+fn rising(d: &Demands) -> u32 {
+    let mut own = d.items;
+    for (b, set) in own.iter_mut().enumerate() {
+        if d.nulls >> b & 1 == 1 {
+            *set = 0;
+        }
+    }
+    excess_demand(&own)
+}
+
+fn above_zero(prices: &[u16; 32]) -> u32 {
+    (0..32).filter(|&i| prices[i] > 0).fold(0, |s, i| s | 1 << i)
+}
+
+fn falling(d: &Demands, prices: &[u16; 32]) -> u32 {
+    let above = above_zero(prices);
+    above & !excess_demand(&d.items.map(|set| set & above))
+}
+
+/// The first assignment in order.
+fn assign(d: &Demands, above: u32, bidders: usize) -> [u8; 64] {
+    let mut names = [0; 64];
+    let mut taken = 0u32;
+    for (b, name) in names.iter_mut().enumerate().take(bidders) {
+        let completes = |taken: u32| {
+            let mut rest = [0; 64];
+            rest[b + 1..].copy_from_slice(&d.items[b + 1..]);
+            rest.iter_mut().for_each(|set| *set &= !taken);
+            let waiting = ((1u128 << bidders) - (2u128 << b)) as u64;
+            covers(&rest, waiting & !d.nulls, above & !taken)
+        };
+        let mut open = d.items[b] & !taken;
+        while open != 0 {
+            let item = open.trailing_zeros();
+            if completes(taken | 1 << item) {
+                *name = item as u8 + 1;
+                taken |= 1 << item;
+                break;
+            }
+            open &= open - 1;
+        }
+    }
+    names
+}
+
+/// The sealed auction of a sheet within the limits.
+#[inline(never)]
+pub fn sealed(
+    items: usize,
+    bidders: usize,
+    start: &[u16],
+    bids: &[u16],
+    rounds: &mut [u32; 2],
+    prices: &mut [u16],
+    names: &mut [u8],
+) {
+    let mut p = [0; 32];
+    p[..items].copy_from_slice(start);
+    *rounds = [0; 2];
+    let mut d = demands(&p, bids, items);
+    let mut set = rising(&d);
+    while set != 0 {
+        (0..32).filter(|&i| set >> i & 1 == 1).for_each(|i| p[i] += 1);
+        rounds[0] += 1;
+        d = demands(&p, bids, items);
+        set = rising(&d);
+    }
+    set = falling(&d, &p);
+    while set != 0 {
+        (0..32).filter(|&i| set >> i & 1 == 1).for_each(|i| p[i] -= 1);
+        rounds[1] += 1;
+        d = demands(&p, bids, items);
+        set = falling(&d, &p);
+    }
+    prices.copy_from_slice(&p[..items]);
+    names.copy_from_slice(&assign(&d, above_zero(&p), bidders)[..bidders]);
+}

@@ -1,0 +1,137 @@
+//! The proved auction from Rust: all bids in, prices and names out.
+//!
+//! The work is done by proved code, linked as a static library; this crate only hands slices over and turns numbers into
+//! [`Refusal`]s. Any argument may be given: what the auction does not accept comes back as a refusal with the number and
+//! the order of document 01.
+//!
+//! ```
+//! // Example 6: two items at 4 and 4, three bidders.
+//! let closing = dewgneiss::sealed(2, 3, &[4, 4], &[2, 6, 3, 7, 6, 7]).unwrap();
+//! assert_eq!((closing.raised, closing.lowered), (2, 2));
+//! assert_eq!(closing.prices, [2, 6]);
+//! assert_eq!(closing.names, [0, 2, 1]); // bidder 1 has no item, bidder 2 has item 2, bidder 3 has item 1
+//!
+//! let sheet = b"020300040004\n00020006\n00030007\n00060007\n";
+//! assert_eq!(dewgneiss::close_sheet(sheet).unwrap(), b"000002000002\n00020006\n000201\n");
+//!
+//! let refusal = dewgneiss::sealed(2, 3, &[4, 4096], &[2, 6, 3, 7, 6, 7]).unwrap_err();
+//! assert_eq!(refusal.number(), 4);
+//! println!("{refusal}");
+//! ```
+//!
+//! Words: an item is a pan, a bidder a raker, a price a rent. Items and bidders are numbered from 1.
+
+pub mod csv;
+mod refusal;
+pub mod table;
+mod turn;
+
+pub use refusal::Refusal;
+pub use turn::{turn, Mismatch};
+
+/// The most items.
+pub const ITEMS: usize = 32;
+/// The most bidders.
+pub const BIDDERS: usize = 64;
+/// The highest price and bid.
+pub const TOP: u16 = 4095;
+/// The bytes of the longest closing sheet.
+pub const LONGEST_CLOSING: usize = 271;
+
+/// The close of a sealed auction.
+#[derive(Clone, Debug, PartialEq, Eq)]
+pub struct Closing {
+    /// Rounds in which prices went up.
+    pub raised: u32,
+    /// Rounds in which prices went down.
+    pub lowered: u32,
+    /// The closing price of each item.
+    pub prices: Vec<u16>,
+    /// Each bidder's item, or 0 for none.
+    pub names: Vec<u8>,
+}
+
+mod linked {
+    extern "C" {
+        // A slice is passed as its address and its length.
+        pub fn dewgneiss_sealed(
+            items: u32,
+            bidders: u32,
+            start: *const u16,
+            start_len: usize,
+            bids: *const u16,
+            bids_len: usize,
+            rounds: *mut u32,
+            rounds_len: usize,
+            prices: *mut u16,
+            prices_len: usize,
+            names: *mut u8,
+            names_len: usize,
+        ) -> u8;
+        pub fn dewgneiss_close_sheet(bytes: *const u8, bytes_len: usize, out: *mut u8, out_len: usize) -> u8;
+    }
+}
+
+/// The sealed auction: `start` has a price for each item, `bids` a bid for each item, bidder after bidder.
+///
+/// Refused with 1, 2, 3, 4 or 5, in this order.
+pub fn sealed(items: u32, bidders: u32, start: &[u16], bids: &[u16]) -> Result<Closing, Refusal> {
+    // Counts out of range are refused before any length is looked at, so the room for them does not matter.
+    let mut rounds = [0; 2];
+    let mut prices = vec![0; (items as usize).min(ITEMS)];
+    let mut names = vec![0; (bidders as usize).min(BIDDERS)];
+    sealed_into(items, bidders, start, bids, &mut rounds, &mut prices, &mut names)?;
+    Ok(Closing { raised: rounds[0], lowered: rounds[1], prices, names })
+}
+
+/// The same into lent memory: `rounds` has 2 places (raised, lowered), `prices` one for each item, `names` one for each bidder.
+///
+/// Another length is refused with 3. After a refusal the lent memory is as it was.
+pub fn sealed_into(
+    items: u32,
+    bidders: u32,
+    start: &[u16],
+    bids: &[u16],
+    rounds: &mut [u32],
+    prices: &mut [u16],
+    names: &mut [u8],
+) -> Result<(), Refusal> {
+    // SAFETY: each address and length is that of one slice; the three that are written to are lent to this call alone.
+    let number = unsafe {
+        linked::dewgneiss_sealed(
+            items,
+            bidders,
+            start.as_ptr(),
+            start.len(),
+            bids.as_ptr(),
+            bids.len(),
+            rounds.as_mut_ptr(),
+            rounds.len(),
+            prices.as_mut_ptr(),
+            prices.len(),
+            names.as_mut_ptr(),
+            names.len(),
+        )
+    };
+    refusal::of(number)
+}
+
+/// The closing sheet of a bid sheet, both as bytes.
+///
+/// Refused with 6 for the first four bytes, 1, 2, 6 for the rest, 4 or 5, in this order.
+pub fn close_sheet(bytes: &[u8]) -> Result<Vec<u8>, Refusal> {
+    let mut out = [0; LONGEST_CLOSING];
+    close_sheet_into(bytes, &mut out)?;
+    // The sheet is three lines; nothing was written past the third.
+    let end = out.iter().enumerate().filter(|(_, &b)| b == b'\n').nth(2).map_or(0, |(k, _)| k + 1);
+    Ok(out[..end].to_vec())
+}
+
+/// The same into lent bytes. Fewer than the sheet takes are refused with 3, tested after 6 and before 4.
+///
+/// Bytes past the sheet stay as they were; after a refusal all do. The sheet takes 15 + 4 · items + 2 · bidders bytes.
+pub fn close_sheet_into(bytes: &[u8], out: &mut [u8]) -> Result<(), Refusal> {
+    // SAFETY: each address and length is that of one slice; `out` is lent to this call alone.
+    let number = unsafe { linked::dewgneiss_close_sheet(bytes.as_ptr(), bytes.len(), out.as_mut_ptr(), out.len()) };
+    refusal::of(number)
+}

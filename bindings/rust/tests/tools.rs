@@ -1,0 +1,79 @@
+//! The tools for people: `show` and `make`.
+
+use dewgneiss::csv::bid_sheet;
+use dewgneiss::table::show;
+use std::path::Path;
+
+fn example(name: &str) -> Vec<u8> {
+    std::fs::read(Path::new(env!("CARGO_MANIFEST_DIR")).join("../../examples").join(name)).expect("an example")
+}
+
+#[test]
+fn example_6_is_shown() {
+    assert_eq!(show(&example("example-6.sheet")).unwrap().into_bytes(), example("example-6.shown"));
+}
+
+#[test]
+fn every_example_closes_as_it_says() {
+    for name in ["example-6", "k4", "k5", "k6", "k7", "k8", "k9"] {
+        let closing = dewgneiss::close_sheet(&example(&format!("{name}.sheet")));
+        assert_eq!(closing, Ok(example(&format!("{name}.closing"))), "{name}");
+        assert!(show(&example(&format!("{name}.sheet"))).is_ok(), "{name}");
+    }
+}
+
+#[test]
+fn a_bad_sheet_is_not_shown() {
+    let said = show(b"0101").unwrap_err().to_string();
+    assert!(said.starts_with("turned down with 06: these bytes are not a bid sheet"), "{said}");
+    let said = show(b"01010000\n1000\n").unwrap_err().to_string();
+    assert!(said.starts_with("turned down with 05: a bid is above 4,095"), "{said}");
+}
+
+#[test]
+fn a_table_becomes_a_sheet() {
+    assert_eq!(bid_sheet(&example("example-6.csv")).unwrap().into_bytes(), example("example-6.sheet"));
+    for same in [
+        "4,4\n2,6\n3,7\n6,7",
+        "4;4\r\n2;6\r\n3;7\r\n6;7\r\n\r\n",
+        "\u{feff}4\t4\n2\t6\n3\t7\n6\t7\n",
+        "\"4\", 4\n2 ,6\n3,7\n6,\"7\"\n\n",
+    ] {
+        assert_eq!(bid_sheet(same.as_bytes()).unwrap().into_bytes(), example("example-6.sheet"), "{same:?}");
+    }
+}
+
+#[test]
+fn what_is_wrong_with_a_table_is_named() {
+    let many = vec!["0"; 33].join(",");
+    let rows = "0\n".repeat(66);
+    for (table, said) in [
+        ("", "line 1, column 1: the table is empty: the first row has the starting rents"),
+        ("4,4\n", "line 2, column 1: no raker: one row a raker follows the starting rents"),
+        ("4,4\n2\n", "line 2, column 2: a bid is missing: the first row has 2 pans"),
+        ("4,4\n2,6,1\n", "line 2, column 3: the first row has no pan here"),
+        ("4,4\n2,\n", "line 2, column 2: no bid: write 0 for none"),
+        (",4\n2,6\n", "line 1, column 1: no starting rent: write 0 for none"),
+        ("4,4\n2,x\n", "line 2, column 2: 'x' is no bid: whole crowns are wanted, digits only"),
+        ("4,4\n2,-6\n", "line 2, column 2: '-6' is no bid: whole crowns are wanted, digits only"),
+        ("4,4\n2.5,6\n", "line 2, column 1: '2.5' is no bid: whole crowns are wanted, digits only"),
+        ("4096,4\n2,6\n", "line 1, column 1: starting rent 4096 is above 4,095"),
+        ("4,4\n2,99999999999999999999\n", "line 2, column 2: bid 99999999999999999999 is above 4,095"),
+        ("4,4\n\n2,6\n", "line 2, column 1: this line is empty, and rows follow it"),
+        (&many, "line 1, column 33: a letting has at most 32 pans"),
+        (&rows, "line 66, column 1: a letting has at most 64 rakers"),
+    ] {
+        assert_eq!(bid_sheet(table.as_bytes()).unwrap_err().to_string(), said);
+    }
+    assert_eq!(bid_sheet(b"\xff").unwrap_err().to_string(), "line 1, column 1: this is not text: save the table as CSV in UTF-8");
+}
+
+/// The limits themselves are fine: 32 pans, 64 rakers, 4,095.
+#[test]
+fn the_largest_table() {
+    let row = vec!["4095"; 32].join(",") + "\n";
+    let sheet = bid_sheet(row.repeat(65).as_bytes()).unwrap();
+    assert!(sheet.starts_with("20400fff"));
+    assert_eq!(sheet.len(), 8_389);
+    assert!(dewgneiss::close_sheet(sheet.as_bytes()).is_ok());
+}

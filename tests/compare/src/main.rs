@@ -1,0 +1,61 @@
+//! Holds the proved code to the second program: through the wrapper, through `closing_sheet` and through `live_console`.
+//!
+//! `compare [SHEETS] [LISTS] [SEED]`. Its last line is 'N passed, M failed'; it fails if M is not 0. The programs are looked for
+//! in `target/bin` of the repository, where `rt` leaves them.
+
+mod fixed;
+mod lent;
+mod lists;
+mod program;
+mod sheets;
+
+/// What was compared, and what differed.
+#[derive(Default)]
+pub struct Tally {
+    pub passed: usize,
+    pub failed: usize,
+}
+
+impl Tally {
+    /// Counts a comparison, and says what differed; the first few of a kind are enough.
+    pub fn expect(&mut self, same: bool, what: impl Fn() -> String) {
+        if same {
+            self.passed += 1;
+            return;
+        }
+        self.failed += 1;
+        if self.failed <= 5 {
+            println!("DIFFERS: {}", what());
+        }
+    }
+
+    pub fn add(&mut self, other: Tally) {
+        self.passed += other.passed;
+        self.failed += other.failed;
+    }
+}
+
+/// Runs one kind of comparison, and says how it went.
+fn stage(total: &mut Tally, name: &str, run: impl FnOnce() -> Tally) {
+    let began = std::time::Instant::now();
+    let tally = run();
+    println!("{name}: {} the same, {} differ ({:.1} s)", tally.passed, tally.failed, began.elapsed().as_secs_f64());
+    total.add(tally);
+}
+
+fn main() {
+    let numbers: Vec<u64> = std::env::args().skip(1).map(|w| w.parse().expect("a number")).collect();
+    let number = |k: usize, default: u64| numbers.get(k).copied().unwrap_or(default);
+    let (count, lists, seed) = (number(0, 24_000), number(1, 0), number(2, 20_250_101));
+    let mut total = Tally::default();
+    stage(&mut total, "document 01's lettings", fixed::all);
+    stage(&mut total, "sheets within the limits, through the wrapper", || sheets::accepted(count * 2 / 3, seed));
+    stage(&mut total, "damaged sheets, through the wrapper", || sheets::damaged(count / 3, seed));
+    stage(&mut total, "lent memory, through the wrapper", || lent::all(count / 12, seed));
+    stage(&mut total, "the program closing_sheet", || program::sheets(count / 60, seed));
+    if lists > 0 {
+        stage(&mut total, "live lists, through the program live_console", || lists::all(lists, seed));
+    }
+    println!("{} passed, {} failed", total.passed, total.failed);
+    std::process::exit(i32::from(total.failed > 0));
+}

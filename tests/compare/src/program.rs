@@ -1,0 +1,90 @@
+//! The program `closing_sheet`, a process for each sheet: a sample of good and damaged ones, and the inputs at the edge.
+
+use crate::sheets::text;
+use crate::Tally;
+use model::cases;
+use model::generate::{self, Damage, Shape, DAMAGES, SHAPES};
+use model::random::Random;
+use model::sheet;
+use std::io::Write;
+use std::path::PathBuf;
+use std::process::{Command, Stdio};
+
+/// Where `rt` leaves a program.
+pub fn path(name: &str) -> PathBuf {
+    PathBuf::from(env!("CARGO_MANIFEST_DIR")).join("../../target/bin").join(name)
+}
+
+/// What the program writes after reading the input.
+pub fn run(name: &str, input: &[u8]) -> std::io::Result<Vec<u8>> {
+    let mut child = Command::new(path(name)).stdin(Stdio::piped()).stdout(Stdio::piped()).spawn()?;
+    let mut stdin = child.stdin.take().expect("it is piped");
+    std::thread::scope(|scope| {
+        // A program may stop reading before the end, so a failing write is none of the test's business.
+        scope.spawn(move || stdin.write_all(input).ok());
+        child.wait_with_output().map(|done| done.stdout)
+    })
+}
+
+/// What the program is to write: the closing sheet, or the number in two digits.
+fn expected(bytes: &[u8]) -> Vec<u8> {
+    sheet::close(bytes, 271).unwrap_or_else(|number| format!("{number:02}\n").into_bytes())
+}
+
+fn compare(what: &str, bytes: &[u8], tally: &mut Tally) {
+    let expected = expected(bytes);
+    let written = run("closing_sheet", bytes);
+    let same = written.as_ref().is_ok_and(|w| *w == expected);
+    tally.expect(same, || {
+        format!("closing_sheet, {what}: {:?}\nexpected {:?}, written {written:?}", text(bytes), text(&expected))
+    });
+}
+
+/// The inputs at the edge of what a sheet can be.
+fn edges(tally: &mut Tally) {
+    let full = model::Sheet { items: 32, bidders: 64, start: vec![0; 32], bids: vec![1; 32 * 64] };
+    let full = sheet::write(&full);
+    for (what, bytes) in [
+        ("nothing", Vec::new()),
+        ("the longest sheet", full.clone()),
+        ("one byte past the longest sheet", [&full[..], b"\n"].concat()),
+        ("the longest sheet less a byte", full[..full.len() - 1].to_vec()),
+        ("a sheet as long as a buffer", vec![b'0'; 65_536]),
+        ("good counts and then too much", [&b"0101"[..], &[b'0'; 100_000]].concat()),
+        ("bad counts and then too much", [&b"2101"[..], &[b'0'; 100_000]].concat()),
+        ("a full sheet and then too much", [&full[..], &[b'0'; 100_000]].concat()),
+        ("no digits and then too much", vec![b'x'; 100_000]),
+    ] {
+        compare(what, &bytes, tally);
+    }
+}
+
+/// A closed standard input is an empty one; a folder in its place cannot be read, and is empty too.
+fn without_input(tally: &mut Tally) {
+    let folder = std::fs::File::open(env!("CARGO_MANIFEST_DIR")).expect("this folder");
+    for (what, input) in [("no standard input", Stdio::null()), ("a folder as standard input", Stdio::from(folder))] {
+        let written = Command::new(path("closing_sheet")).stdin(input).output().map(|done| done.stdout);
+        tally.expect(written.as_ref().is_ok_and(|w| w == b"06\n"), || format!("closing_sheet, {what}: {written:?}"));
+    }
+}
+
+pub fn sheets(count: u64, seed: u64) -> Tally {
+    let mut tally = Tally::default();
+    let mut r = Random::new(seed + 3);
+    for case in cases::table() {
+        compare(case.name, &sheet::write(&case.sheet), &mut tally);
+    }
+    edges(&mut tally);
+    without_input(&mut tally);
+    for k in 0..count as usize {
+        if k % 2 == 0 {
+            let shape = SHAPES[k / 2 % SHAPES.len()];
+            compare(&format!("{shape:?}"), &sheet::write(&generate::sheet(shape, &mut r)), &mut tally);
+        } else {
+            let damage: Damage = DAMAGES[k / 2 % DAMAGES.len()];
+            let s = generate::sheet(Shape::Small, &mut r);
+            compare(&format!("{damage:?}"), &generate::damaged(&s, damage, &mut r), &mut tally);
+        }
+    }
+    tally
+}

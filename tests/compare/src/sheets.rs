@@ -1,0 +1,102 @@
+//! Generated sheets through the wrapper: as numbers and as bytes, accepted and refused.
+
+use crate::fixed::number;
+use crate::Tally;
+use dewgneiss::{close_sheet, close_sheet_into, sealed, turn};
+use model::generate::{self, Shape, DAMAGES, SHAPES};
+use model::random::Random;
+use model::{flows, literal, sheet, totals, Closing};
+use std::thread;
+
+/// The wrapper's closing as the second program's.
+pub fn plain(c: dewgneiss::Closing) -> Closing {
+    Closing { raised: c.raised, lowered: c.lowered, prices: c.prices, names: c.names }
+}
+
+/// Compares `count` things on all processors; the k-th is made from the seed and k alone.
+pub fn on_all_processors(count: u64, seed: u64, one: impl Fn(u64, &mut Random, &mut Tally) + Sync) -> Tally {
+    let workers = thread::available_parallelism().map_or(1, |n| n.get() as u64);
+    thread::scope(|scope| {
+        let work = |w: u64| {
+            let mut tally = Tally::default();
+            for k in (w..count).step_by(workers as usize) {
+                one(k, &mut Random::new(seed.wrapping_mul(0x1000_0001) ^ k << 20), &mut tally);
+            }
+            tally
+        };
+        let running: Vec<_> = (0..workers).map(|w| scope.spawn(move || work(w))).collect();
+        let mut total = Tally::default();
+        running.into_iter().for_each(|r| total.add(r.join().expect("the second program ends")));
+        total
+    })
+}
+
+fn one_accepted(k: u64, r: &mut Random, tally: &mut Tally) {
+    let shape = match k % 40 {
+        0 => Shape::Long,
+        k => SHAPES[k as usize % (SHAPES.len() - 1)],
+    };
+    let s = generate::sheet(shape, r);
+    let path = flows::path(&s);
+    let expected = flows::close_after(&s, &path);
+    let at_turn = flows::turn(&s, &path);
+    // The second program is of one mind: by the letter where that ends, and by totals for a sample.
+    let by_letter = shape != Shape::Small || literal::close(&s) == expected;
+    let by_totals = k % 100 != 1 || totals::turn_and_close(&s) == (at_turn.clone(), expected.prices.clone());
+    let numbers = sealed(s.items as u32, s.bidders as u32, &s.start, &s.bids);
+    let bytes = close_sheet(&sheet::write(&s));
+    // The wrapper's turn takes two more runs: every fourth sheet.
+    let turned = match &numbers {
+        Ok(closing) if k % 4 == 0 => turn(&s.start, &s.bids, closing),
+        _ => Ok(at_turn.clone()),
+    };
+    let same = numbers.clone().map(plain).as_ref() == Ok(&expected)
+        && bytes == Ok(sheet::write_closing(&expected))
+        && turned.as_ref() == Ok(&at_turn);
+    tally.expect(by_letter && by_totals && same, || {
+        let text = String::from_utf8_lossy(&sheet::write(&s)).into_owned();
+        let ways = format!("by the letter {by_letter}, by totals {by_totals}");
+        format!("sheet {k} ({shape:?}):\n{text}expected {expected:?}, turn {at_turn:?} ({ways})\nnumbers {numbers:?}, turn {turned:?}\nbytes {bytes:?}")
+    });
+}
+
+/// Sheets of every kind, within the limits.
+pub fn accepted(count: u64, seed: u64) -> Tally {
+    on_all_processors(count, seed, one_accepted)
+}
+
+/// The lent bytes after the call: the closing sheet at the front, or as they came.
+fn after(lent: &[u8], answer: &Result<Vec<u8>, u8>) -> Vec<u8> {
+    let mut out = lent.to_vec();
+    if let Ok(bytes) = answer {
+        out[..bytes.len()].copy_from_slice(bytes);
+    }
+    out
+}
+
+fn one_damaged(k: u64, r: &mut Random, tally: &mut Tally) {
+    let shape = *r.pick(&[Shape::Small, Shape::Small, Shape::Ties, Shape::Ring]);
+    let s = generate::sheet(shape, r);
+    let damage = DAMAGES[k as usize % DAMAGES.len()];
+    let bytes = if r.one_in(4) { sheet::write(&s) } else { generate::damaged(&s, damage, r) };
+    let needed = sheet::closing_length(s.items, s.bidders);
+    let room = *r.pick(&[0, needed - 1, needed, needed + 1, 271, 300]);
+    let lent: Vec<u8> = (0..room).map(|_| r.draw() as u8).collect();
+    let expected = sheet::close(&bytes, room);
+    let mut out = lent.clone();
+    let given = number(&close_sheet_into(&bytes, &mut out));
+    let same = given == expected.as_ref().err().copied().unwrap_or(0) && out == after(&lent, &expected);
+    tally.expect(same, || {
+        format!("damaged sheet {k} ({damage:?}), room {room}: {:?}\nexpected {expected:?}, given {given}, {out:?}", text(&bytes))
+    });
+}
+
+/// The start of some bytes, to be printed.
+pub fn text(bytes: &[u8]) -> String {
+    String::from_utf8_lossy(&bytes[..bytes.len().min(400)]).into_owned()
+}
+
+/// Damaged sheets, and good ones between them, with rooms of every size.
+pub fn damaged(count: u64, seed: u64) -> Tally {
+    on_all_processors(count, seed + 1, one_damaged)
+}
