@@ -20,13 +20,13 @@ pub many-bidders : (m n room : ℕ) → m ≤ 32 → 64 < n → writes m n room 
 unfolding writes
 many-bidders m n room l h = simp (le-leb m 32 l, lt-leb n 64 h)
 
-pub no-room : (m n room : ℕ) → m ≤ 32 → n ≤ 64 → room < 15 + 4 * m + 2 * n → writes m n room ≡ false
-unfolding writes closingLength
-no-room m n room l k h = simp (le-leb m 32 l, le-leb n 64 k, lt-leb (15 + 4 * m + 2 * n) room h)
+pub no-room : (m n room : ℕ) → m ≤ 32 → n ≤ 64 → room < closingLength m n → writes m n room ≡ false
+unfolding writes
+no-room m n room l k h = simp (le-leb m 32 l, le-leb n 64 k, lt-leb (closingLength m n) room h)
 
-pub enough : (m n room : ℕ) → m ≤ 32 → n ≤ 64 → 15 + 4 * m + 2 * n ≤ room → writes m n room ≡ true
-unfolding writes closingLength
-enough m n room l k h = simp (le-leb m 32 l, le-leb n 64 k, le-leb (15 + 4 * m + 2 * n) room h)
+pub enough : (m n room : ℕ) → m ≤ 32 → n ≤ 64 → closingLength m n ≤ room → writes m n room ≡ true
+unfolding writes
+enough m n room l k h = simp (le-leb m 32 l, le-leb n 64 k, le-leb (closingLength m n) room h)
 
 module _ (m n ups downs : ℕ) (prices options out : List ℕ) where
   pub unchanged : writes m n (length out) ≡ false → out ≡ afterClosing m n ups downs prices options out
@@ -38,12 +38,11 @@ module _ (m n ups downs : ℕ) (prices options out : List ℕ) where
   changed e = ap (λ (t : Bool). cond t (writtenTo out (closingSheet m n ups downs prices options)) out) (sym e)
 
   -- out with the first line is a, with the first two b, with all three c
-  pub three-lines : (a b c : List ℕ) → m ≤ 32 → n ≤ 64 → 15 + 4 * m + 2 * n ≤ length out
+  pub three-lines : (a b c : List ℕ) → m ≤ 32 → n ≤ 64 → closingLength m n ≤ length out
       → a ≡ sets out 0 (hex 6 ups ++ hex 6 downs ++ newline)
       → b ≡ sets a 13 (joined m (λ k. hex 4 (getD prices k 0)) ++ newline)
       → c ≡ sets b (14 + 4 * m) (joined n (λ x. hex 2 (getD options x 0)) ++ newline)
       → c ≡ afterClosing m n ups downs prices options out
-  unfolding closingLength
   three-lines a b c l k h e f g =
       let first : List ℕ = hex 6 ups ++ hex 6 downs ++ newline in
       let second : List ℕ = joined m (λ k. hex 4 (getD prices k 0)) ++ newline in

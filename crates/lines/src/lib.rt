@@ -7,7 +7,7 @@ ghost use Prim.Native.Nat.{_+_, _*_, _≤_, _<_};
 ghost use lib.Dec.{leb};
 ghost use lib.ListN.{length, getD};
 ghost use lib.Seq.{sets};
-ghost use Rattle.lines.specs.Lines.{digit, hex, newline, joined, pricesLine, hasRoom, writes, afterClosing};
+ghost use Rattle.lines.specs.Lines.{digit, hex, newline, joined, pricesLine, hasRoom, closingLength, writes, afterClosing};
 ghost use Rattle.lines.specs.Reading.{digitValue, digitAt, numberIn, asNumber};
 
 // The value of a byte as a digit, and 16 where it is none: only 0 to 9 and a to f are digits.
@@ -139,6 +139,13 @@ fn put_options(out: &mut [u8], at: usize, bidders: usize, options: &[u8; 64])
     out[at + 2 * bidders] = b'\n';
 }
 
+// How many bytes a closing sheet is.
+pub fn closing_length(items: u32, bidders: u32) -> usize
+    ensures { λ r. ⌜ r ≡ closingLength items bidders ⌝ }
+{
+    15 + 4 * (items as usize) + 2 * (bidders as usize)
+}
+
 // Writes the closing sheet's three lines to the front of `out` and answers true. Where there is no room for them, or the counts are beyond
 // 32 and 64, it answers false and leaves `out` as it came.
 pub fn write_closing(
@@ -159,11 +166,11 @@ pub fn write_closing(
     if 64 < bidders {
         return false;
     }
-    let m = items as usize;
-    let n = bidders as usize;
-    if out.len() < 15 + 4 * m + 2 * n {
+    if out.len() < closing_length(items, bidders) {
         return false;
     }
+    let m = items as usize;
+    let n = bidders as usize;
     put_rounds(out, raised, lowered);
     put_prices(out, 13, m, prices);
     put_options(out, 14 + 4 * m, n, options);
