@@ -1,6 +1,6 @@
 -- Runs of stores, one after the other, and lists that are joined. Assumes nothing.
-use Prim.Native.Nat.{ℕ, zero, suc, _+_, _*_, _≤_, _<_}
-use mathlib.Core.Path.{_≡_, refl, sym, ap, _∙_}
+use Prim.Native.Nat.{ℕ, zero, suc, _+_, _*_, _≤_}
+use mathlib.Core.Path.{_≡_, sym, ap, _∙_}
 use mathlib.Core.List.{List, [], _∷_, _++_, append-assoc, append-nil}
 use native.Mathlib.Omega.{arith}
 use native.Mathlib.Nat.{add-zero, zero-add}
@@ -34,13 +34,6 @@ pub joined-last : (n : ℕ) (f : ℕ → List ℕ) → joined (suc n) f ≡ join
 unfolding joined
 joined-last zero f = append-nil (f 0)
 joined-last (suc n) f = ap (λ (r : List ℕ). f 0 ++ r) (joined-last n (λ k. f (suc k))) ∙ sym (append-assoc (f 0) (joined n (λ k. f (suc k))) (f (suc n)))
-
-pub joined-cong : (n : ℕ) (f g : ℕ → List ℕ) → ((k : ℕ) → k < n → f k ≡ g k) → joined n f ≡ joined n g
-unfolding joined
-joined-cong zero f g h = refl
-joined-cong (suc n) f g h =
-    ap (λ (r : List ℕ). r ++ joined n (λ k. f (suc k))) (h 0 (omega arith))
-    ∙ ap (λ (r : List ℕ). g 0 ++ r) (joined-cong n (λ k. f (suc k)) (λ k. g (suc k)) (λ k l. h (suc k) (omega arith)))
 
 -- a run from the front is what stands written there
 pub sets-front : (out sheet : List ℕ) → length sheet ≤ length out → sets out 0 sheet ≡ writtenTo out sheet

@@ -1,16 +1,16 @@
 -- Reading digit after digit: one more, and what is left. Assumes nothing.
 use Prim.Native.Nat.{ℕ, zero, suc, _+_, _*_, _^_, _≤_, _<_}
 use mathlib.Core.Path.{_≡_, refl, sym, ap, _∙_}
-use mathlib.Core.Bool.{Bool, true, false, cond}
+use mathlib.Core.Bool.{Bool, cond}
 use mathlib.Core.List.{List}
 use mathlib.Core.Option.{Option, none, some, Option·getD}
 use native.Mathlib.Omega.{arith}
 use native.Mathlib.Nat.{not-suc-le-zero, pow-le-pow-right}
 use native.Mathlib.Numerals.{add-one}
 use native.Mathlib.Decide.{ℕ-discrete}
-use lib.Dec.{leb}
 use lib.ListN.{length, getD, getElem?}
 use borrow.Author.Tests.{le-leb, lt-leb}
+use Rattle.lines.specs.declared.Number.the-variants.{Is, Nothing}
 use Rattle.lines.specs.Reading.{_>>=_, digitValue, digitAt, numberAt, numberIn, asNumber}
 use Rattle.lines.proofs.Stands.{there, beyond}
 use Rattle.lines.proofs.Gives.{gives, digit-read}
@@ -85,3 +85,18 @@ one-more-digit k x d l h = let e : 16 ^ (k + 1) ≡ 16 * 16 ^ k = simp add-one (
 
 pub within-digits : (k n x : ℕ) → k ≤ n → x < 16 ^ k → x < 16 ^ n
 within-digits k n x l h = omega (arith, h, pow-le-pow-right {n = 16} (omega arith) l)
+
+-- a number that the code has, or has not
+pub was-number : (n : ℕ) (bytes : List ℕ) (at x : ℕ) → n ≤ 8 → asNumber (numberIn n bytes at) ≡ Is x → numberAt n bytes at ≡ some x
+was-number n bytes at x l e = go (numberAt n bytes at) (ap asNumber (sym (few-digits bytes at n l)) ∙ e)
+  where
+    go : (o : Option ℕ) → asNumber o ≡ Is x → o ≡ some x
+    go none f = absurd (let z : _≡_ {A = ℕ} 0 1 = cc in let g : ⊥ = omega arith in g)
+    go (some y) f = let g : y ≡ x = cc in ap {B = Option ℕ} some g
+
+pub was-nothing : (n : ℕ) (bytes : List ℕ) (at : ℕ) → n ≤ 8 → asNumber (numberIn n bytes at) ≡ Nothing → numberAt n bytes at ≡ none
+was-nothing n bytes at l e = go (numberAt n bytes at) (ap asNumber (sym (few-digits bytes at n l)) ∙ e)
+  where
+    go : (o : Option ℕ) → asNumber o ≡ Nothing → o ≡ none
+    go none f = refl
+    go (some y) f = absurd (let z : _≡_ {A = ℕ} 0 1 = cc in let g : ⊥ = omega arith in g)

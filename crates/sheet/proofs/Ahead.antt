@@ -8,17 +8,7 @@ use native.Mathlib.Omega.{arith}
 use native.Mathlib.Nat.{lt-irrefl}
 use Rattle.lines.specs.Reading.{_>>=_, numberAt, numbersAt, endsAt, lineAt}
 use Rattle.lines.proofs.Gives.{gives}
-use Rattle.sheet.specs.declared.Number.the-variants.{Is, Nothing}
-use Rattle.sheet.specs.Steps.{asNumber, readAs}
-
--- a number that the code has, or has not
-pub was-number : (o : Option ℕ) (x : ℕ) → asNumber o ≡ Is x → o ≡ some x
-was-number none x e = absurd (let z : _≡_ {A = ℕ} 0 1 = cc in let f : ⊥ = omega arith in f)
-was-number (some y) x e = let f : y ≡ x = cc in ap {B = Option ℕ} some f
-
-pub was-nothing : (o : Option ℕ) → asNumber o ≡ Nothing → o ≡ none
-was-nothing none e = refl
-was-nothing (some y) e = absurd (let z : _≡_ {A = ℕ} 0 1 = cc in let f : ⊥ = omega arith in f)
+use Rattle.sheet.specs.Steps.{readAs}
 
 -- xs, and then what a reading gives
 abbrev pub ahead : List ℕ → Option (List ℕ) → Option (List ℕ)

@@ -15,7 +15,7 @@ use Rattle.sets.proofs.Lists.{is-tabulate}
 use Rattle.lines.specs.Lines.{hex, newline, joined}
 use Rattle.lines.specs.Reading.{_>>=_, lineAt}
 use Rattle.lines.proofs.Lengths.{line-length, hex-length, joined-length, newline-length}
-use Rattle.lines.proofs.Stores.{joined-cong}
+use Rattle.lines.proofs.Same.{joined-same}
 use Rattle.lines.proofs.Stands.{Stands, nothing, front, back, both}
 use Rattle.lines.proofs.Gives.{gives, gave}
 use Rattle.lines.proofs.Line.{line-at, line-read}
@@ -40,7 +40,7 @@ module _ (m : ℕ) (ys zs : List ℕ) (e : length ys ≡ m) where
   unfolding bidLine
   first-line =
       ap (λ (r : List ℕ). r ++ newline)
-      (joined-cong m (λ k. hex 4 (getD (ys ++ zs) (0 * m + k) 0)) (λ k. hex 4 (getD ys k 0))
+      (joined-same m (λ k. hex 4 (getD (ys ++ zs) (0 * m + k) 0)) (λ k. hex 4 (getD ys k 0))
       (λ k l.
       let z : 0 * m + k ≡ k = omega (arith, zero-mul m) in
       ap (λ (j : ℕ). hex 4 (getD (ys ++ zs) j 0)) z ∙ ap (hex 4) (List·getD-append ys zs 0 k (omega arith))))
@@ -49,7 +49,7 @@ module _ (m : ℕ) (ys zs : List ℕ) (e : length ys ≡ m) where
   unfolding bidLine
   other-line b =
       ap (λ (r : List ℕ). r ++ newline)
-      (joined-cong m (λ k. hex 4 (getD (ys ++ zs) (suc b * m + k) 0)) (λ k. hex 4 (getD zs (b * m + k) 0))
+      (joined-same m (λ k. hex 4 (getD (ys ++ zs) (suc b * m + k) 0)) (λ k. hex 4 (getD zs (b * m + k) 0))
       (λ k l.
       let z : suc b * m + k ≡ length ys + (b * m + k) = omega (arith, suc-mul b m, e) in
       ap (λ (j : ℕ). hex 4 (getD (ys ++ zs) j 0)) z ∙ ap (hex 4) (getD-append-add ys zs (b * m + k) 0)))
@@ -58,7 +58,7 @@ module _ (m : ℕ) (ys zs : List ℕ) (e : length ys ≡ m) where
   unfolding joined
   more-lines n =
       ap (λ (r : List ℕ). r ++ joined n (λ b. bidLine m (ys ++ zs) (suc b))) first-line
-      ∙ ap (λ (r : List ℕ). joined m (λ k. hex 4 (getD ys k 0)) ++ newline ++ r) (joined-cong n (λ b. bidLine m (ys ++ zs) (suc b)) (bidLine m zs) (λ b l. other-line b))
+      ∙ ap (λ (r : List ℕ). joined m (λ k. hex 4 (getD ys k 0)) ++ newline ++ r) (joined-same n (λ b. bidLine m (ys ++ zs) (suc b)) (bidLine m zs) (λ b l. other-line b))
 
 -- ---- reading
 

@@ -38,7 +38,7 @@ module _ (bytes out : List ℕ) (m n : ℕ) (start bids : List ℕ) where
   pub by-auction : (c : Closing) (r : Outcome) (after : List ℕ)
       → itemsIn bytes ≡ some m → biddersIn bytes ≡ some n → badItems m ≡ false → badBidders n ≡ false
       → lineAt m 4 bytes 4 ≡ some start → bidsAt n m bytes (5 + 4 * m) ≡ some bids → length start ≡ m → length bids ≡ n * m
-      → 15 + 4 * m + 2 * n ≤ length out
+      → closingLength m n ≤ length out
       → c ≡ sealedOf m n start bids
       → r .refusal ≡ c .refusal
       → r .length ≡ byNumber (c .refusal) (closingLength m n) 0

@@ -102,15 +102,13 @@ module _ (bytes : List ℕ) (room : ℕ) where
               unfolding bidSheetOf
               sheet-is = ap (λ (o : Option BidSheet). Option·getD o (record { items = 0; bidders = 0; start = []; bids = [] })) is-read
 
-              pub no-room : room < 15 + 4 * m + 2 * n → sheetRefusal bytes room ≡ 3
-              unfolding closingLength
+              pub no-room : room < closingLength m n → sheetRefusal bytes room ≡ 3
               no-room l =
                   to-rest
                   ∙ passed 6 (isNone (readSheet bytes)) _ (ap isNone is-read)
                   ∙ given 3 (ltb room (closingLength m n)) _ (lt-ltb room (closingLength m n) l)
 
-              pub by-amounts : 15 + 4 * m + 2 * n ≤ room → sheetRefusal bytes room ≡ first (on 4 (anyOver start) ∷ on 5 (anyOver bids) ∷ [])
-              unfolding closingLength
+              pub by-amounts : closingLength m n ≤ room → sheetRefusal bytes room ≡ first (on 4 (anyOver start) ∷ on 5 (anyOver bids) ∷ [])
               by-amounts l =
                   to-rest
                   ∙ passed 6 (isNone (readSheet bytes)) _ (ap isNone is-read)

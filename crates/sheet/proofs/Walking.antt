@@ -1,79 +1,13 @@
--- Reading digit after digit and number after number: one more, and what is left. Assumes nothing.
-use Prim.Native.Nat.{ℕ, zero, suc, _+_, _*_, _^_, _≤_, _<_}
-use mathlib.Core.Path.{_≡_, refl, sym, ap, _∙_}
+-- The first four bytes were read, so they are there. Assumes nothing.
+use Prim.Native.Nat.{ℕ, _≤_}
+use mathlib.Core.Path.{_≡_}
 use mathlib.Core.List.{List}
-use mathlib.Core.Option.{Option, none, some, Option·getD}
+use mathlib.Core.Option.{some}
 use native.Mathlib.Omega.{arith}
-use native.Mathlib.Nat.{not-suc-le-zero, pow-le-pow-right}
-use native.Mathlib.Numerals.{add-one}
-use native.Mathlib.Decide.{ℕ-discrete}
-use lib.ListN.{length, getD, getElem?}
-use Rattle.lines.specs.Reading.{_>>=_, digitValue, digitAt, numberAt}
-use Rattle.lines.proofs.Stands.{there, beyond}
-use Rattle.lines.proofs.Gives.{gives, digit-read}
+use lib.ListN.{length}
 use Rattle.lines.proofs.Lengths.{hex-length}
 use Rattle.lines.proofs.Numbers.{number-read}
 use Rattle.sheet.specs.BidSheet.{itemsIn, biddersIn}
-
--- ---- a digit
-
-pub digit-there : (bytes : List ℕ) (at : ℕ) → at < length bytes → digitAt bytes at ≡ digitValue (getD bytes at 0)
-unfolding digitAt
-digit-there bytes at l = gives (getElem? bytes at) digitValue (getD bytes at 0) (there bytes at l)
-
-pub digit-beyond : (bytes : List ℕ) (at : ℕ) → length bytes ≤ at → digitAt bytes at ≡ none
-unfolding digitAt
-digit-beyond bytes at l = ap (λ o. o >>= digitValue) (beyond bytes at l)
-
-pub is-digit : (o : Option ℕ) (d : ℕ) → d ≡ Option·getD o 16 → d ≤ 15 → o ≡ some d
-is-digit none d e l = absurd (let f : ⊥ = omega (arith, e, l) in f)
-is-digit (some x) d e l = ap {B = Option ℕ} some (sym e)
-
-pub no-digit : (bytes : List ℕ) (at d : ℕ) → d ≡ Option·getD (digitAt bytes at) 16 → 15 < d → digitAt bytes at ≡ none
-no-digit bytes at d e l = go (digitAt bytes at) refl
-  where
-    go : (o : Option ℕ) → digitAt bytes at ≡ o → digitAt bytes at ≡ none
-    go none f = f
-    go (some x) f =
-        let same : d ≡ x = e ∙ ap (λ (o : Option ℕ). Option·getD o 16) f in
-        absurd (let g : ⊥ = omega (arith, same, digit-read bytes at x f .0) in g)
-
--- ---- a number
-
-module _ (bytes : List ℕ) (at : ℕ) where
-  pub number-none : numberAt 0 bytes at ≡ some 0
-  unfolding numberAt
-  number-none = refl
-
-  -- one more digit
-  pub number-more : (k x d : ℕ) → numberAt k bytes at ≡ some x → digitAt bytes (at + k) ≡ some d → numberAt (k + 1) bytes at ≡ some (16 * x + d)
-  unfolding numberAt
-  number-more k x d e f =
-      ap (λ (j : ℕ). numberAt j bytes at) (add-one k)
-      ∙ gives (numberAt k bytes at) (λ y. digitAt bytes (at + k) >>= λ z. some (16 * y + z)) x e
-      ∙ gives (digitAt bytes (at + k)) (λ z. some (16 * x + z)) d f
-
-  -- a place that is no digit
-  last : (o : Option ℕ) → (o >>= λ y. none >>= λ z. some (16 * y + z)) ≡ none
-  last none = refl
-  last (some y) = refl
-
-  stops : (n k : ℕ) → digitAt bytes (at + k) ≡ none → (k < n → numberAt n bytes at ≡ none) → k < suc n → Dec (k ≡ n) → numberAt (suc n) bytes at ≡ none
-  unfolding numberAt
-  stops n k e before l (yes q) =
-      ap (λ (o : Option ℕ). numberAt n bytes at >>= λ y. o >>= λ z. some (16 * y + z)) (sym (ap (λ (j : ℕ). digitAt bytes (at + j)) q) ∙ e)
-      ∙ last (numberAt n bytes at)
-  stops n k e before l (no q) = ap (λ (o : Option ℕ). o >>= λ y. digitAt bytes (at + n) >>= λ z. some (16 * y + z)) (before (omega arith))
-
-  pub number-stops : (n k : ℕ) → k < n → digitAt bytes (at + k) ≡ none → numberAt n bytes at ≡ none
-  number-stops zero k l e = absurd (not-suc-le-zero l)
-  number-stops (suc n) k l e = stops n k e (λ h. number-stops n k h e) l (ℕ-discrete k n)
-
-  -- four digits are below 65,536
-  pub number-small : (k n x : ℕ) → at ≤ length bytes → k ≤ n → numberAt k bytes at ≡ some x → x < 16 ^ n
-  number-small k n x l h e = omega (arith, number-read bytes k at x l e .0, pow-le-pow-right {n = 16} (omega arith) h)
-
--- ---- the first four bytes
 
 module _ (bytes : List ℕ) (m : ℕ) (e : itemsIn bytes ≡ some m) where
   pub two-bytes : 2 ≤ length bytes

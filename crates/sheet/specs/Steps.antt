@@ -7,13 +7,6 @@ use mathlib.Core.Option.{Option, none, some}
 use lib.ListN.{length}
 use Rattle.sheet.specs.Close.{bidSheetOf, sheetRefusal, closingOf, byNumber, closedTo}
 use Rattle.sheet.specs.declared.Outcome.{Outcome}
-use Rattle.sheet.specs.declared.Number.{Number}
-use Rattle.sheet.specs.declared.Number.the-variants.{Is, Nothing}
-
--- a number that was read, or none, as the code has it
-abbrev pub asNumber : Option ℕ → Number
-asNumber none = Nothing
-asNumber (some x) = Is x
 
 -- the numbers read, where all were
 abbrev pub readAs : Bool → List ℕ → Option (List ℕ)

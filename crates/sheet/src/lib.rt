@@ -1,55 +1,22 @@
-// Bid sheet in, closing sheet out.
+// Bid sheet in, closing sheet out. The sheet's bytes are not copied: reading goes on at a place of the lent bytes.
+use lines::Number;
 ghost use mathlib.Core.Path.{_≡_};
 ghost use mathlib.Core.Bool.{false, _||_};
-ghost use mathlib.Core.Option.{some, Option·getD};
+ghost use mathlib.Core.Option.{some};
 ghost use Prim.Native.Nat.{_+_, _*_, _≤_, _<_};
 ghost use lib.Dec.{ltb};
 ghost use lib.ListN.{length, take};
-ghost use Rattle.lines.specs.Reading.{digitAt, numberAt, endsAt, lineAt};
+ghost use Rattle.lines.specs.Reading.{endsAt, lineAt};
 ghost use Rattle.lines.specs.Lines.{closingSheet, closingLength, writtenTo};
 ghost use Rattle.rule.specs.Refusal.{badItems, badBidders};
 ghost use Rattle.sheet.specs.BidSheet.{itemsIn, biddersIn, bidsAt};
 ghost use Rattle.sheet.specs.Close.{sheetRefusal, byNumber, closedTo, refusalLine, answerOf};
-ghost use Rattle.sheet.specs.Steps.{asNumber, readAs, Closed};
+ghost use Rattle.sheet.specs.Steps.{readAs, Closed};
 
 // How a bid sheet came out: the number that turned it down, or 0, and how many bytes of closing sheet were written.
 struct Outcome {
     refusal: u8,
     length: usize,
-}
-
-// What stands in digits at a place, if all of them are digits.
-enum Number {
-    Is(u16),
-    Nothing,
-}
-
-// The digit at a place, and 16 where there is none.
-fn digit_at(s: &[u8], at: usize) -> u8
-    ensures { λ r. ⌜ r ≡ Option·getD (digitAt (now (s .entry)) at) 16 ⌝ }
-{
-    if at < s.len() {
-        return lines::digit_value(s[at]);
-    }
-    16
-}
-
-// The number in at most 4 digits from a place on.
-fn number_at(s: &[u8], at: usize, digits: usize) -> Number
-    requires { ⌜ (at ≤ length (now s)) × (digits ≤ 4) ⌝ }
-    ensures { λ r. ⌜ r ≡ asNumber (numberAt digits (now (s .entry)) at) ⌝ }
-{
-    let mut x: u32 = 0;
-    let mut k: usize = 0;
-    while k < digits {
-        let d = digit_at(s, at + k);
-        if 15 < d {
-            return Number::Nothing;
-        }
-        x = 16 * x + (d as u32);
-        k += 1;
-    }
-    Number::Is(x as u16)
 }
 
 // Whether byte 0a stands at a place.
@@ -70,10 +37,10 @@ fn line_at(s: &[u8], at: usize, into: &mut [u16]) -> bool
     let mut here = at;
     let mut i: usize = 0;
     while i < into.len() {
-        let Number::Is(x) = number_at(s, here, 4) else {
+        let Number::Is(x) = lines::number_at(s, here, 4) else {
             return false;
         };
-        into[i] = x;
+        into[i] = x as u16;
         here += 4;
         i += 1;
     }
@@ -109,7 +76,7 @@ fn refused(why: u8) -> Outcome
 }
 
 // Whether a count is outside 1 to the most there may be.
-fn outside(count: u16, most: u16) -> bool
+fn outside(count: u32, most: u32) -> bool
     ensures { λ r. ⌜ (r ≡ (ltb count 1 || ltb most count)) × (r ≡ false → count ≤ most) ⌝ }
 {
     if count < 1 {
@@ -137,12 +104,12 @@ fn write(out: &mut [u8], items: u32, bidders: u32, c: auction::Closing) -> Outco
     lines::write_closing(out, items, bidders, raised, lowered, &prices, &assignment);
     Outcome {
         refusal: 0,
-        length: 15 + 4 * (items as usize) + 2 * (bidders as usize),
+        length: lines::closing_length(items, bidders),
     }
 }
 
 // Closes a sheet whose counts are read and in order.
-fn close_counted(bytes: &[u8], items: u16, bidders: u16, out: &mut [u8]) -> Outcome
+fn close_counted(bytes: &[u8], items: u32, bidders: u32, out: &mut [u8]) -> Outcome
     requires { ⌜ (itemsIn (now bytes) ≡ some items) × (biddersIn (now bytes) ≡ some bidders) × (badItems items ≡ false) × (badBidders bidders ≡ false)
         × (items ≤ 32) × (bidders ≤ 64) ⌝ }
     ensures { λ r. ⌜ Closed (now (bytes .entry)) (now (out .entry)) r (now (out .exit)) ⌝ }
@@ -158,20 +125,20 @@ fn close_counted(bytes: &[u8], items: u16, bidders: u16, out: &mut [u8]) -> Outc
     if !bids_at(bytes, 5 + 4 * m, m, n, &mut bids) {
         return refused(6);
     }
-    if out.len() < 15 + 4 * m + 2 * n {
+    if out.len() < lines::closing_length(items, bidders) {
         return refused(3);
     }
-    let c = auction::sealed(items as u32, bidders as u32, &start[..m], &bids[..size]);
-    write(out, items as u32, bidders as u32, c)
+    let c = auction::sealed(items, bidders, &start[..m], &bids[..size]);
+    write(out, items, bidders, c)
 }
 
 fn close(bytes: &[u8], out: &mut [u8]) -> Outcome
     ensures { λ r. ⌜ Closed (now (bytes .entry)) (now (out .entry)) r (now (out .exit)) ⌝ }
 {
-    let Number::Is(items) = number_at(bytes, 0, 2) else {
+    let Number::Is(items) = lines::number_at(bytes, 0, 2) else {
         return refused(6);
     };
-    let Number::Is(bidders) = number_at(bytes, 2, 2) else {
+    let Number::Is(bidders) = lines::number_at(bytes, 2, 2) else {
         return refused(6);
     };
     if outside(items, 32) {

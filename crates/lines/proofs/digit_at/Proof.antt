@@ -8,9 +8,6 @@ use borrow.Author.Needs.{needs}
 use Rattle.lines.proofs.Walking.{digit-there, digit-beyond}
 use Rattle.lines.proofs.digit_at.Statement.{statement}
 use Rattle.lines.proofs.digit_at.Tie as tie
-use Rattle.lines.proofs.digit_at.Reads as reads
-use Rattle.lines.proofs.digit_at.Lts as lts
-use Rattle.lines.proofs.digit_value.Reads as digit-value-reads
 
 returns : tie.Need-returns
 returns c =

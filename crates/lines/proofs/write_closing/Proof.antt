@@ -14,14 +14,14 @@ returns : tie.Need-returns
 returns c =
     let a = c .before .before .args in
     let e : writes (a .items) (a .bidders) (length (a .out .now)) ≡ false =
-        many-items (a .items) (a .bidders) (length (a .out .now)) (c .if1 .taken) in
+    many-items (a .items) (a .bidders) (length (a .out .now)) (c .if1 .taken) in
     (sym e, unchanged (a .items) (a .bidders) (a .raised) (a .lowered) (a .prices .now) (a .options .now) (a .out .now) e)
 
 returns-2 : tie.Need-returns-2
 returns-2 c =
     let a = c .before .before .before .args in
     let e : writes (a .items) (a .bidders) (length (a .out .now)) ≡ false =
-        many-bidders (a .items) (a .bidders) (length (a .out .now)) (c .before .if1 .left) (c .if2 .taken) in
+    many-bidders (a .items) (a .bidders) (length (a .out .now)) (c .before .if1 .left) (c .if2 .taken) in
     (sym e, unchanged (a .items) (a .bidders) (a .raised) (a .lowered) (a .prices .now) (a .options .now) (a .out .now) e)
 
 closing-length-requires : tie.Need-closing-length-requires
@@ -31,7 +31,7 @@ returns-3 : tie.Need-returns-3
 returns-3 c =
     let a = c .before .before .before .before .before .args in
     let e : writes (a .items) (a .bidders) (length (a .out .now)) ≡ false =
-        no-room (a .items) (a .bidders) (length (a .out .now)) (c .before .before .before .if1 .left) (c .before .before .if2 .left) (subst (λ (k : ℕ). length (a .out .now) < k) (c .before .closing-length .ensures) (c .if3 .taken)) in
+    no-room (a .items) (a .bidders) (length (a .out .now)) (c .before .before .before .if1 .left) (c .before .before .if2 .left) (subst (λ (k : ℕ). length (a .out .now) < k) (c .before .closing-length .ensures) (c .if3 .taken)) in
     (sym e, unchanged (a .items) (a .bidders) (a .raised) (a .lowered) (a .prices .now) (a .options .now) (a .out .now) e)
 
 put-rounds-requires : tie.Need-put-rounds-requires
@@ -65,11 +65,10 @@ returns-4 c =
     let l : a .items ≤ 32 = tested .before .before .before .if1 .left in
     let k : a .bidders ≤ 64 = tested .before .before .if2 .left in
     let h : closingLength (a .items) (a .bidders) ≤ length (a .out .now) =
-        subst (λ (k : ℕ). k ≤ length (a .out .now)) (tested .before .closing-length .ensures) (tested .if3 .left) in
-    (
+    subst (λ (k : ℕ). k ≤ length (a .out .now)) (tested .before .closing-length .ensures) (tested .if3 .left) in (
       sym (enough (a .items) (a .bidders) (length (a .out .now)) l k h),
       three-lines (a .items) (a .bidders) (a .raised) (a .lowered) (a .prices .now) (a .options .now) (a .out .now) (first .last .0) (second .last .0) (third .last .0)
-        l k h (first .ensures) (second .ensures) (third .ensures),
+          l k h (first .ensures) (second .ensures) (third .ensures),
     )
 
 pub write-closing-spec : {M : Type 1} → statement M

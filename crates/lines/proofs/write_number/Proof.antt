@@ -1,6 +1,5 @@
 -- `lines::write_number` meets its contract. Assumes nothing.
-use Prim.Native.Nat.{ℕ, _+_, _≤_, _<_}
-use mathlib.Core.Path.{_≡_}
+use Prim.Native.Nat.{ℕ, _+_}
 use mathlib.Core.List.{List}
 use native.Mathlib.Omega.{arith}
 use lib.Dec.{leb}
@@ -12,9 +11,6 @@ use Rattle.lines.specs.Lines.{hex}
 use Rattle.lines.proofs.Written.{left, done}
 use Rattle.lines.proofs.write_number.Statement.{statement}
 use Rattle.lines.proofs.write_number.Tie as tie
-use Rattle.lines.proofs.write_number.Reads as reads
-use Rattle.lines.proofs.write_number.Lts as lts
-use Rattle.lines.proofs.put_number.Reads as put-number-reads
 
 returns : tie.Need-returns
 returns c =

@@ -1,6 +1,5 @@
 -- `lines::write_prices` meets its contract. Assumes nothing.
-use Prim.Native.Nat.{ℕ, _+_, _*_, _≤_, _<_}
-use mathlib.Core.Path.{_≡_}
+use Prim.Native.Nat.{ℕ}
 use mathlib.Core.List.{List}
 use native.Mathlib.Omega.{arith}
 use lib.ListN.{length}
@@ -10,9 +9,6 @@ use Rattle.lines.specs.Lines.{hasRoom, pricesLine}
 use Rattle.lines.proofs.Written.{left, done, many-priced, short-priced, room-priced}
 use Rattle.lines.proofs.write_prices.Statement.{statement}
 use Rattle.lines.proofs.write_prices.Tie as tie
-use Rattle.lines.proofs.write_prices.Reads as reads
-use Rattle.lines.proofs.write_prices.Lts as lts
-use Rattle.lines.proofs.put_prices.Reads as put-prices-reads
 
 returns : tie.Need-returns
 returns c =

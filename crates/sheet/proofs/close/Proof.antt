@@ -7,8 +7,7 @@ use lib.ListN.{length}
 use borrow.Author.Needs.{needs}
 use Rattle.rule.specs.Refusal.{badItems, badBidders}
 use Rattle.sheet.specs.BidSheet.{itemsIn, biddersIn}
-use Rattle.sheet.proofs.Walking.{two-bytes}
-use Rattle.sheet.proofs.Ahead.{was-number, was-nothing}
+use Rattle.lines.proofs.Walking.{was-number, was-nothing}
 use Rattle.sheet.proofs.Order.{no-items, no-bidders, bad-items, bad-bidders}
 use Rattle.sheet.proofs.Ends.{turned-down}
 use Rattle.sheet.proofs.close.Statement.{statement}
@@ -30,16 +29,16 @@ returns : tie.Need-returns
 unfolding itemsIn
 returns c =
     let a = c .before .before .before .before .before .before .args in
-    let e : itemsIn (a .bytes .now) ≡ none = was-nothing _ (sym (c .before .before .before .number-at .ensures) ∙ c .before .enum-told .given .1) in
+    let e : itemsIn (a .bytes .now) ≡ none = was-nothing 2 (a .bytes .now) 0 (omega arith) (sym (c .before .before .before .number-at .ensures) ∙ c .before .enum-told .given .1) in
     turned-down (a .bytes .now) (a .out .now) (c .refused .result) 5 (no-items (a .bytes .now) (length (a .out .now)) e) (c .refused .ensures .0) (c .refused .ensures .1)
 
 -- the items were read
 items-read : (c : tie.After-known-told) → itemsIn (c .before .before .before .before .before .before .args .bytes .now) ≡ some (c .before .items .given .0 .0)
 unfolding itemsIn
-items-read c = was-number _ (c .before .items .given .0 .0) (sym (c .before .before .before .number-at .ensures) ∙ c .before .items .given .1)
+items-read c = was-number 2 (c .before .before .before .before .before .before .args .bytes .now) 0 (c .before .items .given .0 .0) (omega arith) (sym (c .before .before .before .number-at .ensures) ∙ c .before .items .given .1)
 
 number-at-requires-2 : tie.Need-number-at-requires-2
-number-at-requires-2 c κs = (two-bytes (c .before .before .before .before .before .before .args .bytes .now) (c .before .items .given .0 .0) (items-read c), omega arith)
+number-at-requires-2 c κs = search needs
 
 enum-known-bidders : tie.Need-enum-known-bidders
 enum-known-bidders c = search needs
@@ -55,7 +54,7 @@ unfolding biddersIn
 returns-2 c =
     let at = c .before .before .before .before in
     let a = at .before .before .before .before .before .before .args in
-    let e : biddersIn (a .bytes .now) ≡ none = was-nothing _ (sym (c .before .before .before .number-at2 .ensures) ∙ c .before .enum-told2 .given .1) in
+    let e : biddersIn (a .bytes .now) ≡ none = was-nothing 2 (a .bytes .now) 2 (omega arith) (sym (c .before .before .before .number-at2 .ensures) ∙ c .before .enum-told2 .given .1) in
     turned-down (a .bytes .now) (a .out .now) (c .refused2 .result) 5
     (no-bidders (a .bytes .now) (length (a .out .now)) (at .before .items .given .0 .0) (items-read at) e)
     (c .refused2 .ensures .0) (c .refused2 .ensures .1)
@@ -63,7 +62,7 @@ returns-2 c =
 -- and the bidders
 bidders-read : (c : tie.After-known-told2) → biddersIn (c .before .before .before .before .before .before .before .before .before .before .args .bytes .now) ≡ some (c .before .bidders .given .0 .0)
 unfolding biddersIn
-bidders-read c = was-number _ (c .before .bidders .given .0 .0) (sym (c .before .before .before .number-at2 .ensures) ∙ c .before .bidders .given .1)
+bidders-read c = was-number 2 (c .before .before .before .before .before .before .before .before .before .before .args .bytes .now) 2 (c .before .bidders .given .0 .0) (omega arith) (sym (c .before .before .before .number-at2 .ensures) ∙ c .before .bidders .given .1)
 
 outside-requires : tie.Need-outside-requires
 outside-requires c κs = search needs

@@ -1,6 +1,6 @@
 -- `sheet::close_counted` meets its contract. Assumes nothing.
-use Prim.Native.Nat.{ℕ, _+_, _*_, _≤_}
-use mathlib.Core.Path.{_≡_, sym, ap, _∙_}
+use Prim.Native.Nat.{ℕ, _+_, _*_, _≤_, _<_}
+use mathlib.Core.Path.{_≡_, sym, ap, _∙_, subst}
 use mathlib.Core.Bool.{Bool}
 use mathlib.Core.List.{List, _++_}
 use mathlib.Core.Option.{none, some}
@@ -9,7 +9,6 @@ use lib.ListN.{length, take, drop, replicate, length-append}
 use lib.Seq.{length-take-le, take-at}
 use borrow.Author.Needs.{needs}
 use borrow.Author.Tests.{not-true, not-false}
-use Rattle.lines.specs.Lines.{closingLength}
 use Rattle.lines.specs.Reading.{lineAt}
 use Rattle.auction.specs.Sealed.{sealedOf}
 use Rattle.sheet.specs.BidSheet.{bidsAt}
@@ -109,17 +108,8 @@ returns-2 c =
     (no-bids (a .bytes .now) (length (a .out .now)) (a .items) (p .0) (a .bidders) (p .1) (p .2) (p .3) (at .before .before .line-at .last .1 .1 .0) (start-read at) e)
     (c .refused2 .ensures .0) (c .refused2 .ensures .1)
 
-mul-if3 : tie.Need-mul-if3
-mul-if3 c = search needs
-
-add-if3 : tie.Need-add-if3
-add-if3 c = search needs
-
-mul-if3-2 : tie.Need-mul-if3-2
-mul-if3-2 c = search needs
-
-add-if3-2 : tie.Need-add-if3-2
-add-if3-2 c = search needs
+closing-length-requires : tie.Need-closing-length-requires
+closing-length-requires c κs = search needs
 
 refused-requires-3 : tie.Need-refused-requires-3
 refused-requires-3 c κs = search needs
@@ -146,7 +136,7 @@ bids-long c =
 
 returns-3 : tie.Need-returns-3
 returns-3 c =
-    let read = c .before .before in
+    let read = c .before .before .before in
     let at = read .before .before .before .before in
     let a = at .before .before .before .before .before .before .args in
     let p = at .before .before .before .before .before .before .pre in
@@ -154,38 +144,39 @@ returns-3 c =
     (no-room (a .bytes .now) (length (a .out .now)) (a .items) (p .0) (a .bidders) (p .1) (p .2) (p .3)
     (at .before .before .line-at .last .1 .1 .0) (start-read at)
     (take (a .bidders * a .items) (read .before .before .bids-at .last .1 .1 .1 .1 .0)) (bids-read read)
-    (c .before .if3 .taken))
+    (subst (λ (k : ℕ). length (a .out .now) < k) (c .before .before .closing-length .ensures) (c .before .if3 .taken)))
     (c .refused3 .ensures .0) (c .refused3 .ensures .1)
 
 array-share-prefix-start : tie.Need-array-share-prefix-start
 array-share-prefix-start c =
-    let at = c .before .before .before .before .before in
+    let at = c .before .before .before .before .before .before in
     omega (arith, length-append (at .before .before .line-at .last .1 .1 .0) (drop (at .before .before .before .before .before .before .args .items) zeros), start-long at)
 
 slice-aggregate-sealed : tie.Need-slice-aggregate-sealed
 slice-aggregate-sealed c =
-    let at = c .before .before .before .before .before .before in
+    let at = c .before .before .before .before .before .before .before in
     sym (ap length (start-front at) ∙ start-long at)
 
 array-share-prefix-bids : tie.Need-array-share-prefix-bids
-array-share-prefix-bids c = inside (c .before .before)
+array-share-prefix-bids c = inside (c .before .before .before)
 
 slice-aggregate-sealed-2 : tie.Need-slice-aggregate-sealed-2
-slice-aggregate-sealed-2 c = sym (bids-long (c .before .before .before))
+slice-aggregate-sealed-2 c = sym (bids-long (c .before .before .before .before))
 
 sealed-requires : tie.Need-sealed-requires
 sealed-requires c κs = search needs
 
 write-requires : tie.Need-write-requires
-unfolding closingLength
-write-requires c κs = (omega arith, omega arith, c .before .before .before .before .if3 .left)
+write-requires c κs =
+    let a = c .before .before .before .before .before .before .before .before .before .before .before .before .before .before .before .before .args in
+    (omega arith, omega arith, subst (λ (k : ℕ). k ≤ length (a .out .now)) (c .before .before .before .before .before .closing-length .ensures) (c .before .before .before .before .if3 .left))
 
 same-length : tie.Need-same-length
 same-length c = search needs
 
 returns-4 : tie.Need-returns-4
 returns-4 c =
-    let read = c .before .before .before .before .before .before .before .before in
+    let read = c .before .before .before .before .before .before .before .before .before in
     let at = read .before .before .before .before in
     let a = at .before .before .before .before .before .before .args in
     let p = at .before .before .before .before .before .before .pre in
@@ -195,7 +186,8 @@ returns-4 c =
     let bids : List ℕ = take (n * m) (read .before .before .bids-at .last .1 .1 .1 .1 .0) in
     let w = c .before .before .write in
     by-auction (a .bytes .now) (a .out .now) m n start bids (c .before .before .before .before .sealed .result) (w .result) (w .last .0)
-    (p .0) (p .1) (p .2) (p .3) (start-read at) (bids-read read) (start-long at) (bids-long read) (c .before .before .before .before .before .before .before .if3 .left)
+    (p .0) (p .1) (p .2) (p .3) (start-read at) (bids-read read) (start-long at) (bids-long read)
+    (subst (λ (k : ℕ). k ≤ length (a .out .now)) (c .before .before .before .before .before .before .before .before .closing-length .ensures) (c .before .before .before .before .before .before .before .if3 .left))
     (c .before .before .before .before .sealed .ensures .0 ∙ ap (λ (xs : List ℕ). sealedOf m n xs bids) (start-front at))
     (w .ensures .0) (w .ensures .1) (w .ensures .2)
 
@@ -215,10 +207,7 @@ close-counted-spec =
     bids-at-requires
     refused-requires-2
     returns-2
-    mul-if3
-    add-if3
-    mul-if3-2
-    add-if3-2
+    closing-length-requires
     refused-requires-3
     returns-3
     array-share-prefix-start

@@ -11,7 +11,8 @@ use borrow.Author.Needs.{needs}
 use Rattle.lines.specs.Reading.{numberAt, numbersAt}
 use Rattle.lines.proofs.Lengths.{hex-length}
 use Rattle.lines.proofs.Numbers.{number-read}
-use Rattle.sheet.proofs.Ahead.{was-number, was-nothing, ahead, ahead-none, numbers-stop, numbers-step, numbers-done, no-line, line-by-end}
+use Rattle.lines.proofs.Walking.{was-number, was-nothing}
+use Rattle.sheet.proofs.Ahead.{ahead, ahead-none, numbers-stop, numbers-step, numbers-done, no-line, line-by-end}
 use Rattle.sheet.proofs.line_at.Statement.{statement}
 use Rattle.sheet.proofs.line_at.Tie as tie
 
@@ -52,9 +53,18 @@ returns c =
     let a = c .before .before .before .before .before .before .before .args in
     let l = c .before .before .before .before .loop in
     let n : ℕ = length (a .into .now) in
-    let e : numberAt 4 (a .s .now) (l .here) ≡ none = was-nothing _ (sym (c .before .before .number-at .ensures) ∙ c .enum-told .given .1) in
+    let e : numberAt 4 (a .s .now) (l .here) ≡ none = was-nothing 4 (a .s .now) (l .here) (omega arith) (sym (c .before .before .number-at .ensures) ∙ c .enum-told .given .1) in
     no-line (a .s .now) n (a .at)
     (l .inv .0 ∙ ap (ahead (take (l .i) (l .into))) (numbers-stop (a .s .now) (n - l .i) (l .here) (omega arith) e))
+
+-- the number that was read
+number-there : (c : tie.After-known-told Inv-loop μ-loop) → numberAt 4 (c .before .before .before .before .before .before .before .before .args .s .now) (c .before .before .before .before .before .loop .here) ≡ some (c .before .x .given .0 .0)
+number-there c =
+    was-number 4 (c .before .before .before .before .before .before .before .before .args .s .now) (c .before .before .before .before .before .loop .here) (c .before .x .given .0 .0) (omega arith)
+    (sym (c .before .before .before .number-at .ensures) ∙ c .before .x .given .1)
+
+cast-into : tie.Need-cast-into Inv-loop μ-loop
+cast-into c = omega (arith, number-read (c .before .before .before .before .before .before .before .before .args .s .now) 4 (c .before .before .before .before .before .loop .here) (c .before .x .given .0 .0) (omega arith) (number-there c) .0)
 
 mul-into : tie.Need-mul-into Inv-loop μ-loop
 mul-into c = search needs
@@ -77,7 +87,7 @@ loop-again c =
     let l = c .before .before .before .before .before .loop in
     let n : ℕ = length (a .into .now) in
     let x : ℕ = c .before .x .given .0 .0 in
-    let e : numberAt 4 (a .s .now) (l .here) ≡ some x = was-number _ x (sym (c .before .before .before .number-at .ensures) ∙ c .before .x .given .1) in
+    let e : numberAt 4 (a .s .now) (l .here) ≡ some x = number-there c in
     let r = number-read (a .s .now) 4 (l .here) x (omega arith) e in
     let fits = r .1 .fits in
     let t : take (l .i + 1) (set (l .into) (l .i) x) ≡ take (l .i) (l .into) ++ x ∷ [] = rw add-one (take-suc-set (l .into) (l .i) x (omega arith)) in (
@@ -119,6 +129,7 @@ line-at-spec =
     enum-told
     same-length
     returns
+    cast-into
     mul-into
     slice-write-into
     add-here

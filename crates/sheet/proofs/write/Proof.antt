@@ -1,5 +1,5 @@
 -- `sheet::write` meets its contract. Assumes nothing.
-use Prim.Native.Nat.{ℕ, _+_, _*_, _≤_}
+use Prim.Native.Nat.{ℕ, _≤_}
 use mathlib.Core.Path.{_≡_, sym, ap, _∙_}
 use mathlib.Core.List.{List}
 use native.Mathlib.Omega.{arith}
@@ -27,34 +27,24 @@ returns c =
 write-closing-requires : tie.Need-write-closing-requires
 write-closing-requires c κs = search needs
 
-mul-t16 : tie.Need-mul-t16
-mul-t16 c = search needs
-
-add-t17 : tie.Need-add-t17
-add-t17 c = search needs
-
-mul-t19 : tie.Need-mul-t19
-mul-t19 c = search needs
-
-add-t20 : tie.Need-add-t20
-add-t20 c = search needs
+closing-length-requires : tie.Need-closing-length-requires
+closing-length-requires c κs = search needs
 
 same-length : tie.Need-same-length
 same-length c = search needs
 
 returns-2 : tie.Need-returns-2
-unfolding closingLength
 returns-2 c =
-    let a = c .before .before .before .before .before .before .before .before .before .before .args in
-    let zero-given : a .c .refusal ≡ 0 = c .before .before .before .before .before .before .before .before .if1 .left in
-    let room : 15 + 4 * a .items + 2 * a .bidders ≤ length (a .out .now) = c .before .before .before .before .before .before .before .before .before .before .pre .2 in
+    let a = c .before .before .before .before .before .before .before .before .before .before .before .args in
+    let zero-given : a .c .refusal ≡ 0 = c .before .before .before .before .before .before .before .before .before .if1 .left in
+    let room : closingLength (a .items) (a .bidders) ≤ length (a .out .now) = c .before .before .before .before .before .before .before .before .before .before .before .pre .2 in
     let sheet : List ℕ = closingSheet (a .items) (a .bidders) (a .c .raised) (a .c .lowered) (a .c .prices) (a .c .assignment) in
-    let wrote : c .before .before .write-closing .last .0 ≡ writtenTo (a .out .now) sheet =
-    c .before .before .write-closing .ensures .1
+    let wrote : c .before .before .before .write-closing .last .0 ≡ writtenTo (a .out .now) sheet =
+    c .before .before .before .write-closing .ensures .1
     ∙ sym (changed (a .items) (a .bidders) (a .c .raised) (a .c .lowered) (a .c .prices) (a .c .assignment) (a .out .now)
     (enough (a .items) (a .bidders) (length (a .out .now)) (omega arith) (omega arith) room)) in (
       sym zero-given,
-      ap (λ (k : ℕ). byNumber k (closingLength (a .items) (a .bidders)) 0) (sym zero-given),
+      c .closing-length .ensures ∙ ap (λ (k : ℕ). byNumber k (closingLength (a .items) (a .bidders)) 0) (sym zero-given),
       wrote ∙ ap (λ (k : ℕ). byNumber k (writtenTo (a .out .now) sheet) (a .out .now)) (sym zero-given),
     )
 
@@ -65,9 +55,6 @@ write-spec =
     refused-requires
     returns
     write-closing-requires
-    mul-t16
-    add-t17
-    mul-t19
-    add-t20
+    closing-length-requires
     same-length
     returns-2)
