@@ -18,6 +18,9 @@ Inv-loop prices line top items₀ i₀ items i = (i ≤ length line) × (items �
 abbrev μ-loop : tie.MeasureT-loop
 μ-loop prices line top items₀ i₀ items i = length line - i
 
+returns : tie.Need-returns Inv-loop μ-loop
+returns c = absurd (omega arith)
+
 highest-requires : tie.Need-highest-requires Inv-loop μ-loop
 highest-requires c κs = search needs
 
@@ -54,20 +57,20 @@ loop-less c = search needs
 
 loop-again : tie.Need-loop-again Inv-loop μ-loop
 loop-again c =
-    let a = c .before .before .before .before .before .before .before .before .args in
+    let a = c .before .before .before .before .before .before .before .before .before .args in
     let top = c .before .before .before .before .before .before .highest in
     let at = c .before .before .before .before .before .loop in
     let lt = c .before .before .before .before .loop-test .taken in
     let w = c .before .worth in (
       omega arith,
-      add-next 32 (best (length (a .line .now)) (a .prices .now) (a .line .now)) (at .i) (omega (arith, lt, c .before .before .before .before .before .before .before .before .pre)) (at .items) (eqb (w .result) (top .result)) (c .add-item .result) (at .inv .1)
+      add-next 32 (best (length (a .line .now)) (a .prices .now) (a .line .now)) (at .i) (omega (arith, lt, c .before .before .before .before .before .before .before .before .before .pre)) (at .items) (eqb (w .result) (top .result)) (c .add-item .result) (at .inv .1)
           (item-test (length (a .line .now)) (a .prices .now) (a .line .now) (top .result) (top .ensures) (at .i) (w .result) lt (w .ensures)) (c .add-item .ensures),
     )
 
-returns : tie.Need-returns Inv-loop μ-loop
+returns-2 : tie.Need-returns-2 Inv-loop μ-loop
 unfolding demand
-returns c =
-    let a = c .before .before .before .before .args in
+returns-2 c =
+    let a = c .before .before .before .before .before .args in
     let top = c .before .before .highest in
     let at = c .before .loop in (
       null-test (length (a .line .now)) (a .prices .now) (a .line .now) (top .result) (top .ensures),
@@ -80,6 +83,7 @@ demand-of-spec =
     (tie.spec
     Inv-loop
     μ-loop
+    returns
     highest-requires
     loop-holds
     add-add-item
@@ -92,4 +96,4 @@ demand-of-spec =
     add-i
     loop-less
     loop-again
-    returns)
+    returns-2)
