@@ -3,10 +3,10 @@ use lines::Number;
 ghost use mathlib.Core.Path.{_≡_};
 ghost use mathlib.Core.Bool.{false, _||_};
 ghost use mathlib.Core.Option.{some};
-ghost use Prim.Native.Nat.{_+_, _*_, _≤_, _<_};
+ghost use Prim.Native.Nat.{_+_, _*_, _^_, _≤_, _<_};
 ghost use lib.Dec.{ltb};
 ghost use lib.ListN.{length, take};
-ghost use Rattle.lines.specs.Reading.{endsAt, lineAt};
+ghost use Rattle.lines.specs.Reading.{numberIn, asNumber, endsAt, lineAt};
 ghost use Rattle.lines.specs.Lines.{closingSheet, closingLength, writtenTo};
 ghost use Rattle.rule.specs.Refusal.{badItems, badBidders};
 ghost use Rattle.sheet.specs.BidSheet.{itemsIn, biddersIn, bidsAt};
@@ -17,6 +17,45 @@ ghost use Rattle.sheet.specs.Steps.{readAs, Closed};
 struct Outcome {
     refusal: u8,
     length: usize,
+}
+
+// The sheet's bytes, lent, and the place of the byte to be read next. What is done with a reader is proved by hand, so it is little: the work is left
+// to functions on bytes and a place.
+struct Reader<'a> {
+    src: &'a [u8],
+    at: usize,
+}
+
+fn reader_at<'a>(src: &'a [u8], at: usize) -> Reader<'a>
+    ensures { λ r. ⌜ (r .src ≡ src .entry) × (r .at ≡ at) ⌝ }
+{
+    Reader { src, at }
+}
+
+// Reading goes on so many bytes further.
+fn after<'a>(r: Reader<'a>, bytes: usize) -> Reader<'a>
+    requires { ⌜ r .at + bytes < 2 ^ 64 ⌝ }
+    ensures { λ q. ⌜ (q .src ≡ r .entry .src) × (q .at ≡ r .entry .at + bytes) ⌝ }
+{
+    Reader {
+        src: r.src,
+        at: r.at + bytes,
+    }
+}
+
+// What stands in so many digits where the reader is.
+fn number<'a>(r: Reader<'a>, digits: usize) -> Number
+    ensures { λ n. ⌜ n ≡ asNumber (numberIn digits (now (r .entry .src)) (r .entry .at)) ⌝ }
+{
+    lines::number_at(r.src, r.at, digits)
+}
+
+// What stands in so many digits, so many bytes past a place: the sheet's numbers are all read here.
+fn read_number(s: &[u8], at: usize, passed: usize, digits: usize) -> Number
+    requires { ⌜ at + passed < 2 ^ 64 ⌝ }
+    ensures { λ n. ⌜ n ≡ asNumber (numberIn digits (now (s .entry)) (at + passed)) ⌝ }
+{
+    number(after(reader_at(s, at), passed), digits)
 }
 
 // Whether byte 0a stands at a place.
@@ -34,17 +73,15 @@ fn line_at(s: &[u8], at: usize, into: &mut [u16]) -> bool
     requires { ⌜ (at ≤ length (now s)) × (length (now into) ≤ 32) ⌝ }
     ensures { λ r. ⌜ lineAt (length (now (into .entry))) 4 (now (s .entry)) at ≡ readAs r (now (into .exit)) ⌝ }
 {
-    let mut here = at;
     let mut i: usize = 0;
     while i < into.len() {
-        let Number::Is(x) = lines::number_at(s, here, 4) else {
+        let Number::Is(x) = read_number(s, at, 4 * i, 4) else {
             return false;
         };
         into[i] = x as u16;
-        here += 4;
         i += 1;
     }
-    ends_at(s, here)
+    ends_at(s, at + 4 * i)
 }
 
 // Reads a line for each bidder from a place on, each line's bids behind those of the line before, and says whether they are there and nothing follows.
@@ -135,10 +172,10 @@ fn close_counted(bytes: &[u8], items: u32, bidders: u32, out: &mut [u8]) -> Outc
 fn close(bytes: &[u8], out: &mut [u8]) -> Outcome
     ensures { λ r. ⌜ Closed (now (bytes .entry)) (now (out .entry)) r (now (out .exit)) ⌝ }
 {
-    let Number::Is(items) = lines::number_at(bytes, 0, 2) else {
+    let Number::Is(items) = read_number(bytes, 0, 0, 2) else {
         return refused(6);
     };
-    let Number::Is(bidders) = lines::number_at(bytes, 2, 2) else {
+    let Number::Is(bidders) = read_number(bytes, 0, 2, 2) else {
         return refused(6);
     };
     if outside(items, 32) {

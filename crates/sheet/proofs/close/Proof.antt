@@ -13,8 +13,8 @@ use Rattle.sheet.proofs.Ends.{turned-down}
 use Rattle.sheet.proofs.close.Statement.{statement}
 use Rattle.sheet.proofs.close.Tie as tie
 
-number-at-requires : tie.Need-number-at-requires
-number-at-requires c κs = search needs
+read-number-requires : tie.Need-read-number-requires
+read-number-requires c κs = search needs
 
 enum-known-items : tie.Need-enum-known-items
 enum-known-items c = search needs
@@ -29,16 +29,16 @@ returns : tie.Need-returns
 unfolding itemsIn
 returns c =
     let a = c .before .before .before .before .before .before .args in
-    let e : itemsIn (a .bytes .now) ≡ none = was-nothing 2 (a .bytes .now) 0 (omega arith) (sym (c .before .before .before .number-at .ensures) ∙ c .before .enum-told .given .1) in
+    let e : itemsIn (a .bytes .now) ≡ none = was-nothing 2 (a .bytes .now) 0 (omega arith) (sym (c .before .before .before .read-number .ensures) ∙ c .before .enum-told .given .1) in
     turned-down (a .bytes .now) (a .out .now) (c .refused .result) 5 (no-items (a .bytes .now) (length (a .out .now)) e) (c .refused .ensures .0) (c .refused .ensures .1)
 
 -- the items were read
 items-read : (c : tie.After-known-told) → itemsIn (c .before .before .before .before .before .before .args .bytes .now) ≡ some (c .before .items .given .0 .0)
 unfolding itemsIn
-items-read c = was-number 2 (c .before .before .before .before .before .before .args .bytes .now) 0 (c .before .items .given .0 .0) (omega arith) (sym (c .before .before .before .number-at .ensures) ∙ c .before .items .given .1)
+items-read c = was-number 2 (c .before .before .before .before .before .before .args .bytes .now) 0 (c .before .items .given .0 .0) (omega arith) (sym (c .before .before .before .read-number .ensures) ∙ c .before .items .given .1)
 
-number-at-requires-2 : tie.Need-number-at-requires-2
-number-at-requires-2 c κs = search needs
+read-number-requires-2 : tie.Need-read-number-requires-2
+read-number-requires-2 c κs = search needs
 
 enum-known-bidders : tie.Need-enum-known-bidders
 enum-known-bidders c = search needs
@@ -54,7 +54,7 @@ unfolding biddersIn
 returns-2 c =
     let at = c .before .before .before .before in
     let a = at .before .before .before .before .before .before .args in
-    let e : biddersIn (a .bytes .now) ≡ none = was-nothing 2 (a .bytes .now) 2 (omega arith) (sym (c .before .before .before .number-at2 .ensures) ∙ c .before .enum-told2 .given .1) in
+    let e : biddersIn (a .bytes .now) ≡ none = was-nothing 2 (a .bytes .now) 2 (omega arith) (sym (c .before .before .before .read-number2 .ensures) ∙ c .before .enum-told2 .given .1) in
     turned-down (a .bytes .now) (a .out .now) (c .refused2 .result) 5
     (no-bidders (a .bytes .now) (length (a .out .now)) (at .before .items .given .0 .0) (items-read at) e)
     (c .refused2 .ensures .0) (c .refused2 .ensures .1)
@@ -62,7 +62,7 @@ returns-2 c =
 -- and the bidders
 bidders-read : (c : tie.After-known-told2) → biddersIn (c .before .before .before .before .before .before .before .before .before .before .args .bytes .now) ≡ some (c .before .bidders .given .0 .0)
 unfolding biddersIn
-bidders-read c = was-number 2 (c .before .before .before .before .before .before .before .before .before .before .args .bytes .now) 2 (c .before .bidders .given .0 .0) (omega arith) (sym (c .before .before .before .number-at2 .ensures) ∙ c .before .bidders .given .1)
+bidders-read c = was-number 2 (c .before .before .before .before .before .before .before .before .before .before .args .bytes .now) 2 (c .before .bidders .given .0 .0) (omega arith) (sym (c .before .before .before .read-number2 .ensures) ∙ c .before .bidders .given .1)
 
 outside-requires : tie.Need-outside-requires
 outside-requires c κs = search needs
@@ -124,12 +124,12 @@ pub close-spec : {M : Type 1} → statement M
 close-spec =
     tie.close
     (tie.spec
-    number-at-requires
+    read-number-requires
     enum-known-items
     enum-told
     refused-requires
     returns
-    number-at-requires-2
+    read-number-requires-2
     enum-known-bidders
     enum-told-2
     refused-requires-2
