@@ -14,7 +14,7 @@ use Rattle.sets.proofs.Counting.{lt-or-le, all-make, any-use, any-make, and-bot
 use Rattle.rule.specs.Sheet.{amount, row, each4095, withinLimits}
 use Rattle.rule.specs.Refusal.{Refusal, on, first, badItems, badBidders, badLength, anyOver, badBidder}
 use Rattle.rule.proofs.Limits.{Limits, limits}
-use Rattle.rule.proofs.Refusal.{passed, given}
+use Rattle.rule.proofs.Refusal.{passed, given, none-over, over-not}
 use Rattle.auction.specs.Lent.{lineOf, rowsOf, sheetOf}
 use Rattle.auction.specs.Sealed.{sealedRefusal}
 use Rattle.auction.proofs.Lent.{rows-length, row-at, line-inside, line-length, line-at}
@@ -57,28 +57,7 @@ pub good-length : (xs : List ℕ) (n : ℕ) → badLength xs n ≡ false → len
 unfolding badLength
 good-length xs n e = eqb-true (length xs) n (not-false (eqb (length xs) n) e)
 
-pub none-over : (xs : List ℕ) → anyOver xs ≡ false → (k : ℕ) → k < length xs → getD xs k 0 ≤ 4095
-unfolding anyOver
-none-over xs e k l = go (lt-or-le 4095 (getD xs k 0))
-  where
-    go : (4095 < getD xs k 0) ⊎ (getD xs k 0 ≤ 4095) → getD xs k 0 ≤ 4095
-    go (inr q) = q
-    go (inl q) = absurd (not-both (anyBelow (length xs) (λ k. ltb 4095 (getD xs k 0))) (any-make (length xs) (λ k. ltb 4095 (getD xs k 0)) k l (lt-ltb 4095 (getD xs k 0) q)) e)
-
 -- ---- and how a condition fails or holds
-
-pub over-not : (xs : List ℕ) → ((k : ℕ) → k < length xs → getD xs k 0 ≤ 4095) → anyOver xs ≡ false
-unfolding anyOver
-over-not xs h =
-    is-false (anyBelow (length xs) (λ k. ltb 4095 (getD xs k 0))) (λ e.
-    let w = any-use (length xs) (λ k. ltb 4095 (getD xs k 0)) e in
-    let more = ltb-true 4095 (getD xs (w .0) 0) (w .2) in
-    let most = h (w .0) (w .1) in
-    omega arith)
-
-pub over-some : (xs : List ℕ) (k : ℕ) → k < length xs → 4095 < getD xs k 0 → anyOver xs ≡ true
-unfolding anyOver
-over-some xs k l h = any-make (length xs) (λ k. ltb 4095 (getD xs k 0)) k l (lt-ltb 4095 (getD xs k 0) h)
 
 items-good : (m : ℕ) → 1 ≤ m → m ≤ 32 → badItems m ≡ false
 unfolding badItems

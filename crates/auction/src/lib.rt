@@ -8,7 +8,7 @@ ghost use Rattle.rule.specs.Sheet.{withinLimits};
 ghost use Rattle.rule.specs.Demand.{demand, demands};
 ghost use Rattle.rule.specs.Excess.{excessDemand, excessSupply, positive};
 ghost use Rattle.rule.specs.Round.{path, close};
-ghost use Rattle.rule.specs.Refusal.{badItems, badBidders, badBidder, anyOver};
+ghost use Rattle.rule.specs.Refusal.{badItems, badBidders, badBidder};
 ghost use Rattle.auction.specs.Lent.{lineOf, rowsOf, sheetOf};
 ghost use Rattle.auction.specs.Line.{lineRefusal, lineShown};
 ghost use Rattle.auction.specs.Sealed.{sealedRefusal, sealedOf, Promised};
@@ -221,20 +221,6 @@ fn bad_bidder(bidders: u32, bidder: u32) -> bool
     bidders < bidder
 }
 
-// 4 and 5: an amount above 4,095.
-fn over(xs: &[u16]) -> bool
-    ensures { λ r. ⌜ r ≡ anyOver (now (xs .entry)) ⌝ }
-{
-    let mut i: usize = 0;
-    while i < xs.len() {
-        if 4095 < xs[i] {
-            return true;
-        }
-        i += 1;
-    }
-    false
-}
-
 // How many bids there are.
 fn bid_count(items: u32, bidders: u32) -> usize
     requires { ⌜ (items ≤ 32) × (bidders ≤ 64) ⌝ }
@@ -259,10 +245,10 @@ fn refusal(items: u32, bidders: u32, start: &[u16], bids: &[u16]) -> u8
     if bids.len() != bid_count(items, bidders) {
         return 3;
     }
-    if over(start) {
+    if round::any_over(start) {
         return 4;
     }
-    if over(bids) {
+    if round::any_over(bids) {
         return 5;
     }
     0

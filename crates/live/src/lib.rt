@@ -11,7 +11,6 @@ ghost use Rattle.sets.specs.Bit.{has, setOf};
 ghost use Rattle.sets.specs.Lists.{places};
 ghost use Rattle.rule.specs.Sheet.{amount, priceSum};
 ghost use Rattle.rule.specs.Demand.{Demand};
-ghost use Rattle.rule.specs.Refusal.{anyOver};
 ghost use Rattle.lines.specs.Lines.{writtenTo};
 ghost use Rattle.live.specs.Auction.{place, hasReported, isEmpty, beyond, unfit, countsFit, pricesFit, unusedPrices, unusedPlaces, unusedBits, reportedFit, othersEmpty, missing, roundsFit, closeFits, risingSet, fallingSet, wellFormed};
 ghost use Rattle.live.specs.Calls.{zeros, unopened, openAuction, cleared, withReport, saying, isClosed, reportNumber, report, clearNumber, clear, atTop, settled, endingOf, endAnswer, endNext};
@@ -129,20 +128,6 @@ fn zeros() -> Auction
     }
 }
 
-// a starting price is above 4,095
-fn starts_high(start: &[u16]) -> bool
-    ensures { λ r. ⌜ r ≡ anyOver (now (start .entry)) ⌝ }
-{
-    let mut i: usize = 0;
-    while i < start.len() {
-        if start[i] > 4095 {
-            return true;
-        }
-        i += 1;
-    }
-    false
-}
-
 // an opening that is turned down
 fn refused(number: u8) -> Reply
     ensures { λ r. ⌜ r ≡ unopened number ⌝ }
@@ -172,7 +157,7 @@ pub fn open(items: usize, bidders: usize, start: &[u16]) -> Reply
     if start.len() != items {
         return refused(3);
     }
-    if starts_high(start) {
+    if round::any_over(start) {
         return refused(4);
     }
     let prices = round::in_places(start);
@@ -213,7 +198,7 @@ impl Auction {
         ensures { λ r. ⌜ r ≡ pricesFit self ⌝ }
     {
         let prices = self.prices;
-        !starts_high(&prices)
+        !round::any_over(&prices)
     }
 
     fn unused_prices(self) -> bool

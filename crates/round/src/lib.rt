@@ -11,6 +11,7 @@ ghost use Rattle.sets.specs.Count.{toNat};
 ghost use Rattle.sets.specs.Lists.{tabulate, places};
 ghost use Rattle.rule.specs.Excess.{excessDemand, excessSupply, positive};
 ghost use Rattle.rule.specs.Round.{lower};
+ghost use Rattle.rule.specs.Refusal.{anyOver};
 ghost use Rattle.round.specs.Reports.{reports};
 ghost use Rattle.round.specs.Prices.{raisePlaces};
 
@@ -150,6 +151,20 @@ pub fn lowered(prices: &[u16; 32], set: u32) -> [u16; 32]
         i += 1;
     }
     next
+}
+
+// Some amount is above 4,095: what 4 asks of starting prices and 5 of bids.
+pub fn any_over(xs: &[u16]) -> bool
+    ensures { λ r. ⌜ r ≡ anyOver (now (xs .entry)) ⌝ }
+{
+    let mut i: usize = 0;
+    while i < xs.len() {
+        if 4095 < xs[i] {
+            return true;
+        }
+        i += 1;
+    }
+    false
 }
 
 // What stands at a place, and 0 past the end.

@@ -52,8 +52,8 @@ returns-4 c =
     ∙ passed 3 (badLength (a .start .now) (a .items)) _ (length-good (a .start .now) (a .items) (c .before .before .if3 .left))
     ∙ given 3 (badLength (a .bids .now) (a .bidders * a .items)) _ (length-bad (a .bids .now) (a .bidders * a .items) (λ q. c .if4 .taken (q ∙ sym (c .before .bid-count .ensures)))))
 
-over-requires : tie.Need-over-requires
-over-requires c κs = search needs
+any-over-requires : tie.Need-any-over-requires
+any-over-requires c κs = search needs
 
 returns-5 : tie.Need-returns-5
 unfolding sealedRefusal
@@ -63,10 +63,10 @@ returns-5 c =
     ∙ passed 2 (badBidders (a .bidders)) _ (sym (c .before .before .before .before .before .before .bad-bidders .ensures) ∙ c .before .before .before .before .before .if2 .left)
     ∙ passed 3 (badLength (a .start .now) (a .items)) _ (length-good (a .start .now) (a .items) (c .before .before .before .before .if3 .left))
     ∙ passed 3 (badLength (a .bids .now) (a .bidders * a .items)) _ (length-good (a .bids .now) (a .bidders * a .items) (c .before .before .if4 .left ∙ c .before .before .before .bid-count .ensures))
-    ∙ given 4 (anyOver (a .start .now)) _ (sym (c .before .over .ensures) ∙ c .if5 .taken))
+    ∙ given 4 (anyOver (a .start .now)) _ (sym (c .before .any-over .ensures) ∙ c .if5 .taken))
 
-over-requires-2 : tie.Need-over-requires-2
-over-requires-2 c κs = search needs
+any-over-requires-2 : tie.Need-any-over-requires-2
+any-over-requires-2 c κs = search needs
 
 returns-6 : tie.Need-returns-6
 unfolding sealedRefusal
@@ -76,8 +76,8 @@ returns-6 c =
     ∙ passed 2 (badBidders (a .bidders)) _ (sym (c .before .before .before .before .before .before .before .before .bad-bidders .ensures) ∙ c .before .before .before .before .before .before .before .if2 .left)
     ∙ passed 3 (badLength (a .start .now) (a .items)) _ (length-good (a .start .now) (a .items) (c .before .before .before .before .before .before .if3 .left))
     ∙ passed 3 (badLength (a .bids .now) (a .bidders * a .items)) _ (length-good (a .bids .now) (a .bidders * a .items) (c .before .before .before .before .if4 .left ∙ c .before .before .before .before .before .bid-count .ensures))
-    ∙ passed 4 (anyOver (a .start .now)) _ (sym (c .before .before .before .over .ensures) ∙ c .before .before .if5 .left)
-    ∙ given 5 (anyOver (a .bids .now)) _ (sym (c .before .over2 .ensures) ∙ c .if6 .taken))
+    ∙ passed 4 (anyOver (a .start .now)) _ (sym (c .before .before .before .any-over .ensures) ∙ c .before .before .if5 .left)
+    ∙ given 5 (anyOver (a .bids .now)) _ (sym (c .before .any-over2 .ensures) ∙ c .if6 .taken))
 
 returns-7 : tie.Need-returns-7
 unfolding sealedRefusal
@@ -87,8 +87,8 @@ returns-7 c =
     ∙ passed 2 (badBidders (a .bidders)) _ (sym (c .before .before .before .before .before .before .before .before .bad-bidders .ensures) ∙ c .before .before .before .before .before .before .before .if2 .left)
     ∙ passed 3 (badLength (a .start .now) (a .items)) _ (length-good (a .start .now) (a .items) (c .before .before .before .before .before .before .if3 .left))
     ∙ passed 3 (badLength (a .bids .now) (a .bidders * a .items)) _ (length-good (a .bids .now) (a .bidders * a .items) (c .before .before .before .before .if4 .left ∙ c .before .before .before .before .before .bid-count .ensures))
-    ∙ passed 4 (anyOver (a .start .now)) _ (sym (c .before .before .before .over .ensures) ∙ c .before .before .if5 .left)
-    ∙ passed 5 (anyOver (a .bids .now)) _ (sym (c .before .over2 .ensures) ∙ c .if6 .left)
+    ∙ passed 4 (anyOver (a .start .now)) _ (sym (c .before .before .before .any-over .ensures) ∙ c .before .before .if5 .left)
+    ∙ passed 5 (anyOver (a .bids .now)) _ (sym (c .before .any-over2 .ensures) ∙ c .if6 .left)
     ∙ sym first-nil)
 
 pub refusal-spec : {M : Type 1} → statement M
@@ -102,8 +102,8 @@ refusal-spec =
     returns-3
     bid-count-requires
     returns-4
-    over-requires
+    any-over-requires
     returns-5
-    over-requires-2
+    any-over-requires-2
     returns-6
     returns-7)

@@ -13,7 +13,6 @@ use Rattle.live.proofs.open.Reads as reads
 use Rattle.live.proofs.open.Lts as lts
 use Rattle.round.proofs.in_places.Reads as in-places-reads
 use Rattle.live.proofs.refused.Reads as refused-reads
-use Rattle.live.proofs.starts_high.Reads as starts-high-reads
 
 refused-requires : tie.Need-refused-requires
 refused-requires c κs = search needs
@@ -75,8 +74,8 @@ returns-5 c =
     let e : n ≤ 64 = omega arith in
     c .refused5 .ensures ∙ sym (three m n l (good-items m a b) (good-bidders n d e) (c .before .if5 .taken))
 
-starts-high-requires : tie.Need-starts-high-requires
-starts-high-requires c κs = search needs
+any-over-requires : tie.Need-any-over-requires
+any-over-requires c κs = search needs
 
 refused-requires-6 : tie.Need-refused-requires-6
 refused-requires-6 c κs = search needs
@@ -91,7 +90,7 @@ returns-6 c =
     let d : 1 ≤ n = omega arith in
     let e : n ≤ 64 = omega arith in
     let q : length l ≡ m = omega arith in
-    c .refused6 .ensures ∙ sym (four m n l (good-items m a b) (good-bidders n d e) q (sym (c .before .before .starts-high .ensures) ∙ c .before .if6 .taken))
+    c .refused6 .ensures ∙ sym (four m n l (good-items m a b) (good-bidders n d e) q (sym (c .before .before .any-over .ensures) ∙ c .before .if6 .taken))
 
 in-places-requires : tie.Need-in-places-requires
 in-places-requires c κs = search needs
@@ -106,7 +105,7 @@ returns-7 c =
     let d : 1 ≤ n = omega arith in
     let e : n ≤ 64 = omega arith in
     let q : length l ≡ m = omega arith in
-    accepts-with m n l (good-items m a b) (good-bidders n d e) q (c .in-places .result) (c .in-places .ensures) (sym (c .before .before .starts-high .ensures) ∙ c .before .if6 .left)
+    accepts-with m n l (good-items m a b) (good-bidders n d e) q (c .in-places .result) (c .in-places .ensures) (sym (c .before .before .any-over .ensures) ∙ c .before .if6 .left)
 
 pub open-spec : {M : Type 1} → statement M
 open-spec =
@@ -122,7 +121,7 @@ open-spec =
     returns-4
     refused-requires-5
     returns-5
-    starts-high-requires
+    any-over-requires
     refused-requires-6
     returns-6
     in-places-requires

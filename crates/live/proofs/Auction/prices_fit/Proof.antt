@@ -7,17 +7,16 @@ use Rattle.live.proofs.Auction.prices_fit.Statement.{statement}
 use Rattle.live.proofs.Auction.prices_fit.Tie as tie
 use Rattle.live.proofs.Auction.prices_fit.Reads as reads
 use Rattle.live.proofs.Auction.prices_fit.Lts as lts
-use Rattle.live.proofs.starts_high.Reads as starts-high-reads
 
-slice-aggregate-starts-high : tie.Need-slice-aggregate-starts-high
-slice-aggregate-starts-high c = search needs
+slice-aggregate-any-over : tie.Need-slice-aggregate-any-over
+slice-aggregate-any-over c = search needs
 
-starts-high-requires : tie.Need-starts-high-requires
-starts-high-requires c κs = search needs
+any-over-requires : tie.Need-any-over-requires
+any-over-requires c κs = search needs
 
 returns : tie.Need-returns
 unfolding pricesFit
-returns c = ap not (c .starts-high .ensures)
+returns c = ap not (c .any-over .ensures)
 
 pub prices-fit-spec : {M : Type 1} → statement M
-prices-fit-spec = tie.close (tie.spec slice-aggregate-starts-high starts-high-requires returns)
+prices-fit-spec = tie.close (tie.spec slice-aggregate-any-over any-over-requires returns)

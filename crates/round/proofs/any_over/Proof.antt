@@ -1,13 +1,13 @@
--- `auction::over` meets its contract. No amount passed so far is above 4,095. Assumes nothing.
+-- `round::any_over` meets its contract. No amount passed so far is above 4,095. Assumes nothing.
 use Prim.Native.Nat.{ℕ, _-_, _≤_, _<_}
 use mathlib.Core.Path.{sym}
 use native.Mathlib.Omega.{arith}
 use lib.ListN.{length, getD}
 use borrow.Author.Count.{below-none, below-more}
-use Rattle.auction.proofs.Limits.{over-some, over-not}
+use Rattle.rule.proofs.Refusal.{over-some, over-not}
 use borrow.Author.Needs.{needs}
-use Rattle.auction.proofs.over.Statement.{statement}
-use Rattle.auction.proofs.over.Tie as tie
+use Rattle.round.proofs.any_over.Statement.{statement}
+use Rattle.round.proofs.any_over.Tie as tie
 
 abbrev Inv-loop : tie.InvT-loop
 Inv-loop xs i₀ i = (i ≤ length xs) × ((k : ℕ) → k < i → getD xs k 0 ≤ 4095)
@@ -42,8 +42,8 @@ loop-again c =
 returns-2 : tie.Need-returns-2 Inv-loop μ-loop
 returns-2 c = sym (over-not (c .before .before .args .xs .now) (λ k l. c .before .loop .inv .1 k (omega (arith, l, c .loop-test .left))))
 
-pub over-spec : {M : Type 1} → statement M
-over-spec =
+pub any-over-spec : {M : Type 1} → statement M
+any-over-spec =
     tie.close
     (tie.spec
     Inv-loop
