@@ -59,11 +59,17 @@ fn edges(tally: &mut Tally) {
     }
 }
 
-/// A closed standard input is an empty one; a folder in its place cannot be read, and is empty too.
+/// A standard input that is empty, closed or cannot be read gives 06.
 fn without_input(tally: &mut Tally) {
+    let program = path("closing_sheet");
+    let closed = |mut shell: Command| shell.args(["-c", "exec \"$0\" <&-"]).arg(&program).output();
     let folder = std::fs::File::open(env!("CARGO_MANIFEST_DIR")).expect("this folder");
-    for (what, input) in [("no standard input", Stdio::null()), ("a folder as standard input", Stdio::from(folder))] {
-        let written = Command::new(path("closing_sheet")).stdin(input).output().map(|done| done.stdout);
+    for (what, done) in [
+        ("an empty standard input", Command::new(&program).stdin(Stdio::null()).output()),
+        ("a closed standard input", closed(Command::new("sh"))),
+        ("a folder as standard input", Command::new(&program).stdin(folder).output()),
+    ] {
+        let written = done.map(|done| done.stdout);
         tally.expect(written.as_ref().is_ok_and(|w| w == b"06\n"), || format!("closing_sheet, {what}: {written:?}"));
     }
 }
