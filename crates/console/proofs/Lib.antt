@@ -1,0 +1,6 @@
+pub mod Prices
+pub mod Lines
+pub mod Enough
+pub mod Writing
+pub mod Showing
+pub mod Answering

@@ -1,0 +1,163 @@
+-- The bytes of an answer, put one after the other. Assumes nothing.
+use Prim.Native.Nat.{ℕ, zero, suc, _+_, _*_, _/_, _%_, _≤_, _<_}
+use mathlib.Core.Path.{_≡_, refl, sym, ap, _∙_, subst}
+use mathlib.Core.Bool.{Bool, true, false, cond}
+use mathlib.Core.List.{List, [], _∷_, _++_, append-assoc}
+use native.Mathlib.Omega.{arith}
+use lib.Dec.{leb}
+use lib.ListN.{length, set, take, length-append}
+use lib.Seq.{sets, length-sets, take-all, length-take-le}
+use borrow.Author.Tests.{le-leb, lt-ltb, le-ltb}
+use Rattle.rule.specs.Round.{Round, raised, lowered, closed}
+use Rattle.lines.specs.Lines.{hex, newline, pricesLine, hasRoom, writtenTo}
+use Rattle.lines.proofs.Stores.{sets-then, sets-front}
+use Rattle.lines.proofs.Lengths.{hex-length, line-length}
+use Rattle.lines.proofs.Written.{room-priced}
+use Rattle.live.specs.Calls.{Ending, gives, refused}
+use Rattle.live.specs.declared.Auction.{Auction}
+use Rattle.live.specs.declared.Reply.{Reply}
+use Rattle.console.specs.Answers.{numberText, numberLine, pricesText, roundText, Told, opens, replies, ends}
+use Rattle.console.specs.Steps.{Puts}
+use Rattle.console.specs.declared.Answered.{Answered}
+
+-- ---- a number
+
+pub text-put : (out : List ℕ) (x : ℕ) → set (set out 0 (48 + x / 10)) 1 (48 + x % 10) ≡ sets out 0 (numberText x)
+unfolding numberText
+text-put out x = refl
+
+pub line-put : (out after : List ℕ) (x : ℕ) → after ≡ sets out 0 (numberText x) → set after 2 10 ≡ sets out 0 (numberLine x)
+unfolding numberLine numberText newline
+line-put out after x e = ap (λ (l : List ℕ). set l 2 10) e
+
+pub text-long : (x : ℕ) → length (numberText x) ≡ 2
+unfolding numberText
+text-long x = refl
+
+pub number-long : (x : ℕ) → length (numberLine x) ≡ 3
+unfolding numberLine numberText newline
+number-long x = refl
+
+pub reply-put : (o : Reply) (out after : List ℕ) → after ≡ sets out 0 (numberLine (o .number)) → Puts (replies o) out after (record { length = 3; next = o .next })
+unfolding replies
+reply-put o out after e = record { next = refl; counted = sym (number-long (o .number)); small = omega (arith, number-long (o .number)); put = e }
+
+-- ---- prices
+
+pub prices-long : (r : Auction) → length (pricesText r) ≡ 4 * r .items + 1
+unfolding pricesText pricesLine
+prices-long r = line-length (r .items) 4 (r .prices)
+
+pub prices-put : (r : Auction) (out after : List ℕ) (at : ℕ) → r .items ≤ 32 → at + 129 ≤ length out
+    → after ≡ cond (hasRoom (r .items) at (length out)) (sets out at (pricesLine (r .items) (r .prices))) out → after ≡ sets out at (pricesText r)
+unfolding pricesText
+prices-put r out after at l h e =
+    e ∙ ap (λ (b : Bool). cond b (sets out at (pricesLine (r .items) (r .prices))) out) (room-priced (r .items) at (length out) l (omega arith))
+
+-- ---- an opening
+
+opens-as : (o : Reply) → o .number ≡ 0 → opens o .bytes ≡ numberText 0 ++ pricesText (o .next)
+unfolding opens
+opens-as o e = ap (λ (x : ℕ). numberText x ++ elim x [ zero ↦ pricesText (o .next) | suc j ↦ newline ]) e
+
+opens-not : (o : Reply) → (o .number ≡ 0 → ⊥) → opens o .bytes ≡ numberLine (o .number)
+unfolding opens numberLine
+opens-not o ne = go (o .number) ne
+  where
+    go : (x : ℕ) → (x ≡ 0 → ⊥) → numberText x ++ elim x [ zero ↦ pricesText (o .next) | suc j ↦ newline ] ≡ numberText x ++ newline
+    go zero n = absurd (n refl)
+    go (suc j) n = refl
+
+opens-next : (o : Reply) → opens o .next ≡ o .next
+unfolding opens
+opens-next o = refl
+
+pub open-kept : (o : Reply) (out after : List ℕ) (a : Answered) → (o .number ≡ 0 → ⊥) → Puts (replies o) out after a → Puts (opens o) out after a
+unfolding replies
+open-kept o out after a ne p =
+    let e = sym (opens-not o ne) in
+    record {
+      next = p .next ∙ sym (opens-next o);
+      counted = p .counted ∙ ap length e;
+      small = subst (λ (l : List ℕ). length l ≤ 274) e (p .small);
+      put = p .put ∙ ap (sets out 0) e;
+    }
+
+pub open-put : (o : Reply) (out mid after : List ℕ) → o .number ≡ 0 → o .next .items ≤ 32 → mid ≡ sets out 0 (numberText 0) → after ≡ sets mid 2 (pricesText (o .next))
+    → Puts (opens o) out after (record { length = 3 + 4 * o .next .items; next = o .next })
+open-put o out mid after z l e f =
+    let long : length (opens o .bytes) ≡ 3 + 4 * o .next .items =
+    ap length (opens-as o z) ∙ length-append (numberText 0) (pricesText (o .next)) ∙ (let p = prices-long (o .next) in omega (arith, text-long 0, p)) in
+    record {
+      next = sym (opens-next o);
+      counted = sym long;
+      small = omega (arith, long, l);
+      put =
+          f ∙ ap (λ (x : List ℕ). sets x 2 (pricesText (o .next))) e ∙ sets-then out 0 2 (numberText 0) (pricesText (o .next)) (omega (arith, text-long 0))
+          ∙ ap (sets out 0) (sym (opens-as o z));
+    }
+
+-- ---- a round
+
+written : (out after : List ℕ) (at n x : ℕ) → at + n ≤ length out → after ≡ cond (leb (at + n) (length out)) (sets out at (hex n x)) out → after ≡ sets out at (hex n x)
+written out after at n x l e = e ∙ ap (λ (b : Bool). cond b (sets out at (hex n x)) out) (le-leb (at + n) (length out) l)
+
+module _ (out a b after : List ℕ) (kind set : ℕ) (long : 12 ≤ length out) (e : a ≡ sets out 0 (numberText 0)) where
+  same-a : length a ≡ length out
+  same-a = ap length e ∙ length-sets out 0 (numberText 0)
+
+  module _ (f : b ≡ cond (leb 4 (length a)) (sets a 2 (hex 2 kind)) a) where
+    put-b : b ≡ sets a 2 (hex 2 kind)
+    put-b = written a b 2 2 kind (omega (arith, same-a)) f
+
+    same-b : length b ≡ length out
+    same-b = ap length put-b ∙ length-sets a 2 (hex 2 kind) ∙ same-a
+
+    pub round-put : after ≡ cond (leb 12 (length b)) (sets b 4 (hex 8 set)) b → after ≡ sets out 0 (numberText 0 ++ (hex 2 kind ++ hex 8 set))
+    round-put g =
+        written b after 4 8 set (omega (arith, same-b)) g
+        ∙ ap (λ (l : List ℕ). sets l 4 (hex 8 set)) put-b
+        ∙ sets-then a 2 4 (hex 2 kind) (hex 8 set) (omega (arith, hex-length 2 kind))
+        ∙ ap (λ (l : List ℕ). sets l 2 (hex 2 kind ++ hex 8 set)) e
+        ∙ sets-then out 0 2 (numberText 0) (hex 2 kind ++ hex 8 set) (omega (arith, text-long 0))
+
+-- the answer to an end that was not turned down
+abbrev pub movedBytes : ℕ → ℕ → Auction → Told
+movedBytes kind set next = record { bytes = numberText 0 ++ (hex 2 kind ++ hex 8 set) ++ pricesText next; next = next }
+
+front-long : (kind set : ℕ) → length (numberText 0 ++ (hex 2 kind ++ hex 8 set)) ≡ 12
+front-long kind set =
+    length-append (numberText 0) (hex 2 kind ++ hex 8 set) ∙ (let l = length-append (hex 2 kind) (hex 8 set) in omega (arith, text-long 0, l, hex-length 2 kind, hex-length 8 set))
+
+pub move-put : (kind set : ℕ) (next : Auction) (out mid after : List ℕ) → next .items ≤ 32 → mid ≡ sets out 0 (numberText 0 ++ (hex 2 kind ++ hex 8 set))
+    → after ≡ sets mid 12 (pricesText next) → Puts (movedBytes kind set next) out after (record { length = 13 + 4 * next .items; next = next })
+move-put kind set next out mid after l e f =
+    let front : List ℕ = numberText 0 ++ (hex 2 kind ++ hex 8 set) in
+    let long : length (front ++ pricesText next) ≡ 13 + 4 * next .items = length-append front (pricesText next) ∙ (let p = prices-long next in omega (arith, front-long kind set, p)) in
+    record {
+      next = refl;
+      counted = sym long;
+      small = omega (arith, long, l);
+      put = f ∙ ap (λ (x : List ℕ). sets x 12 (pricesText next)) e ∙ sets-then out 0 12 front (pricesText next) (omega (arith, front-long kind set));
+    }
+
+-- what an end answers, round by round
+module _ (next : Auction) (out after : List ℕ) (a : Answered) where
+  pub raised-put : (set : ℕ) → Puts (movedBytes 1 set next) out after a → Puts (ends (gives (raised set)) next) out after a
+  unfolding ends roundText
+  raised-put set p = record { next = p .next; counted = p .counted; small = p .small; put = p .put }
+
+  pub lowered-put : (set : ℕ) → Puts (movedBytes 2 set next) out after a → Puts (ends (gives (lowered set)) next) out after a
+  unfolding ends roundText
+  lowered-put set p = record { next = p .next; counted = p .counted; small = p .small; put = p .put }
+
+  pub closed-put : Puts (movedBytes 3 0 next) out after a → Puts (ends (gives closed) next) out after a
+  unfolding ends roundText
+  closed-put p = record { next = p .next; counted = p .counted; small = p .small; put = p .put }
+
+  pub refused-put : (x : ℕ) → Puts (replies (record { number = x; next = next })) out after a → Puts (ends (refused x) next) out after a
+  unfolding ends replies
+  refused-put x p = record { next = p .next; counted = p .counted; small = p .small; put = p .put }
+
+  pub by-ending : (e f : Ending) → e ≡ f → Puts (ends f next) out after a → Puts (ends e next) out after a
+  by-ending e f q p = subst (λ (x : Ending). Puts (ends x next) out after a) (sym q) p

@@ -1,0 +1,178 @@
+-- `console::answer` meets its contract. Assumes nothing.
+use mathlib.Core.Path.{_≡_}
+use mathlib.Core.List.{List}
+use Prim.Native.Nat.{ℕ}
+use borrow.Author.Needs.{needs}
+use Rattle.live.specs.Calls.{endingOf}
+use Rattle.console.specs.Answers.{opens, replies, ends, reads}
+use Rattle.console.proofs.Answering.{no-room, answers, told-open, told-report, told-end, told-clear, told-read, told-none, open-starts, open-items, end-items}
+use Rattle.console.proofs.answer.Statement.{statement}
+use Rattle.console.proofs.answer.Tie as tie
+use Rattle.console.proofs.answer.Reads as reads
+use Rattle.console.proofs.answer.Lts as lts
+use Rattle.console.proofs.ended.Reads as ended-reads
+use Rattle.console.proofs.open_by.Reads as open-by-reads
+use Rattle.console.proofs.opened.Reads as opened-reads
+use Rattle.console.proofs.order_of.Reads as order-of-reads
+use Rattle.console.proofs.replied.Reads as replied-reads
+use Rattle.console.proofs.shown.Reads as shown-reads
+use Rattle.live.proofs.Auction.clear.Reads as clear-reads
+use Rattle.live.proofs.Auction.end.Reads as end-reads
+use Rattle.live.proofs.Auction.report.Reads as report-reads
+
+returns : tie.Need-returns
+returns c = no-room (c .before .before .before .args .held) (c .before .before .before .args .line .now) (c .before .before .before .args .out .now) (c .if1 .taken)
+
+order-of-requires : tie.Need-order-of-requires
+order-of-requires c κs = search needs
+
+enum-known-o : tie.Need-enum-known-o
+enum-known-o c = search needs
+
+open-by-requires : tie.Need-open-by-requires
+open-by-requires c κs = open-starts (c .before .before .before .before .before .before .before .before .args .line .now) (c .before .before .before .before .order-of .result) (c .before .before .o .given .0 .0) (c .before .before .o .given .0 .1 .0) (c .before .before .before .before .order-of .ensures) (c .before .before .o .given .1)
+
+opened-requires : tie.Need-opened-requires
+opened-requires c κs = (c .before .before .before .before .before .before .if1 .left, open-items (c .before .before .before .o .given .0 .0) (c .before .before .before .o .given .0 .1 .0) _ (c .open-by .result) (c .open-by .ensures))
+
+enum-known-o-2 : tie.Need-enum-known-o-2
+enum-known-o-2 c = search needs
+
+report-requires : tie.Need-report-requires
+report-requires c κs = search needs
+
+replied-requires : tie.Need-replied-requires
+replied-requires c κs = search needs
+
+enum-told : tie.Need-enum-told
+enum-told c = search needs
+
+end-requires : tie.Need-end-requires
+end-requires c κs = search needs
+
+ended-requires : tie.Need-ended-requires
+ended-requires c κs = (c .before .before .before .before .before .if1 .left, λ o q. end-items (c .before .before .before .before .before .before .before .before .args .held) (endingOf (c .end .result .ended)) (c .end .result .next) o (c .end .ensures .0) (c .end .ensures .1) q)
+
+enum-told-2 : tie.Need-enum-told-2
+enum-told-2 c = search needs
+
+clear-requires : tie.Need-clear-requires
+clear-requires c κs = search needs
+
+replied-requires-2 : tie.Need-replied-requires-2
+replied-requires-2 c κs = search needs
+
+enum-told-3 : tie.Need-enum-told-3
+enum-told-3 c = search needs
+
+shown-requires : tie.Need-shown-requires
+shown-requires c κs = search needs
+
+enum-told-4 : tie.Need-enum-told-4
+enum-told-4 c = search needs
+
+replied-requires-3 : tie.Need-replied-requires-3
+replied-requires-3 c κs = search needs
+
+same-length : tie.Need-same-length
+same-length c = search needs
+
+returns-2 : tie.Need-returns-2
+returns-2 c =
+    let a = c .before .before .before .before .before .before .before .before .before .before .before .before .args in
+    let x = c .before .before .opened in
+    answers (a .held) (a .line .now) (a .out .now) (x .last .0) (x .result) (opens (c .before .before .before .open-by .result)) (c .before .before .before .before .before .before .before .before .before .if1 .left)
+    (told-open (a .held) (a .line .now) (c .before .before .before .before .before .before .before .before .order-of .result) (c .before .before .before .before .before .before .before .before .order-of .ensures) (c .before .before .before .before .before .before .o .given .0 .0) (c .before .before .before .before .before .before .o .given .0 .1 .0) (c .before .before .before .before .before .before .o .given .1) (c .before .before .before .open-by .result) (c .before .before .before .open-by .ensures))
+    (x .ensures)
+
+same-length-2 : tie.Need-same-length-2
+same-length-2 c = search needs
+
+returns-3 : tie.Need-returns-3
+returns-3 c =
+    let a = c .before .before .before .before .before .before .before .before .before .before .before .before .args in
+    let x = c .before .before .replied in
+    let o = c .before .before .before .before .before .before .o2 .given in
+    answers (a .held) (a .line .now) (a .out .now) (x .last .0) (x .result) (replies (c .before .before .before .report .result)) (c .before .before .before .before .before .before .before .before .before .if1 .left)
+    (told-report (a .held) (a .line .now) (c .before .before .before .before .before .before .before .before .order-of .result) (c .before .before .before .before .before .before .before .before .order-of .ensures) (o .0 .0) (o .0 .1 .0) (o .0 .1 .1 .0) (o .1) (c .before .before .before .report .result) (c .before .before .before .report .ensures))
+    (x .ensures)
+
+same-length-3 : tie.Need-same-length-3
+same-length-3 c = search needs
+
+returns-4 : tie.Need-returns-4
+returns-4 c =
+    let a = c .before .before .before .before .before .before .before .before .before .before .before .args in
+    let x = c .before .before .ended in
+    let s = c .before .before .before .end in
+    answers (a .held) (a .line .now) (a .out .now) (x .last .0) (x .result) (ends (endingOf (s .result .ended)) (s .result .next)) (c .before .before .before .before .before .before .before .before .if1 .left)
+    (told-end (a .held) (a .line .now) (c .before .before .before .before .before .before .before .order-of .result) (c .before .before .before .before .before .before .before .order-of .ensures) (c .before .before .before .before .before .enum-told .given .1) (endingOf (s .result .ended)) (s .result .next) (s .ensures .0) (s .ensures .1))
+    (x .ensures)
+
+same-length-4 : tie.Need-same-length-4
+same-length-4 c = search needs
+
+returns-5 : tie.Need-returns-5
+returns-5 c =
+    let a = c .before .before .before .before .before .before .before .before .before .before .before .args in
+    let x = c .before .before .replied2 in
+    answers (a .held) (a .line .now) (a .out .now) (x .last .0) (x .result) (replies (c .before .before .before .clear .result)) (c .before .before .before .before .before .before .before .before .if1 .left)
+    (told-clear (a .held) (a .line .now) (c .before .before .before .before .before .before .before .order-of .result) (c .before .before .before .before .before .before .before .order-of .ensures) (c .before .before .before .before .before .enum-told2 .given .1) (c .before .before .before .clear .result) (c .before .before .before .clear .ensures))
+    (x .ensures)
+
+same-length-5 : tie.Need-same-length-5
+same-length-5 c = search needs
+
+returns-6 : tie.Need-returns-6
+returns-6 c =
+    let a = c .before .before .before .before .before .before .before .before .before .before .args in
+    let x = c .before .before .shown in
+    answers (a .held) (a .line .now) (a .out .now) (x .last .0) (x .result) (reads (a .held)) (c .before .before .before .before .before .before .before .if1 .left)
+    (told-read (a .held) (a .line .now) (c .before .before .before .before .before .before .order-of .result) (c .before .before .before .before .before .before .order-of .ensures) (c .before .before .before .before .enum-told3 .given .1))
+    (x .ensures)
+
+same-length-6 : tie.Need-same-length-6
+same-length-6 c = search needs
+
+returns-7 : tie.Need-returns-7
+returns-7 c =
+    let a = c .before .before .before .before .before .before .before .before .before .before .args in
+    let x = c .before .before .replied3 in
+    answers (a .held) (a .line .now) (a .out .now) (x .last .0) (x .result) (replies (record { number = 6; next = a .held })) (c .before .before .before .before .before .before .before .if1 .left)
+    (told-none (a .held) (a .line .now) (c .before .before .before .before .before .before .order-of .result) (c .before .before .before .before .before .before .order-of .ensures) (c .before .before .before .before .enum-told4 .given .1))
+    (x .ensures)
+
+pub answer-spec : {M : Type 1} → statement M
+answer-spec =
+    tie.close
+    (tie.spec
+    returns
+    order-of-requires
+    enum-known-o
+    open-by-requires
+    opened-requires
+    enum-known-o-2
+    report-requires
+    replied-requires
+    enum-told
+    end-requires
+    ended-requires
+    enum-told-2
+    clear-requires
+    replied-requires-2
+    enum-told-3
+    shown-requires
+    enum-told-4
+    replied-requires-3
+    same-length
+    returns-2
+    same-length-2
+    returns-3
+    same-length-3
+    returns-4
+    same-length-4
+    returns-5
+    same-length-5
+    returns-6
+    same-length-6
+    returns-7)

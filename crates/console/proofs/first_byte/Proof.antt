@@ -1,0 +1,22 @@
+-- `console::first_byte` meets its contract. Assumes nothing.
+use Prim.Native.Nat.{ℕ}
+use mathlib.Core.Path.{sym}
+use lib.ListN.{length, List·getD-eq-default}
+use native.Mathlib.Omega.{arith}
+use borrow.Author.Needs.{needs}
+use Rattle.console.proofs.first_byte.Statement.{statement}
+use Rattle.console.proofs.first_byte.Tie as tie
+use Rattle.console.proofs.first_byte.Reads as reads
+use Rattle.console.proofs.first_byte.Lts as lts
+
+shared-slice-read-result : tie.Need-shared-slice-read-result
+shared-slice-read-result c = search needs
+
+returns : tie.Need-returns
+returns c = search needs
+
+returns-2 : tie.Need-returns-2
+returns-2 c = sym (List·getD-eq-default (c .before .args .line .now) 0 {n = 0} (omega arith))
+
+pub first-byte-spec : {M : Type 1} → statement M
+first-byte-spec = tie.close (tie.spec shared-slice-read-result returns returns-2)

@@ -1,0 +1,61 @@
+-- `console::open_by` meets its contract. Assumes nothing.
+use Prim.Native.Nat.{ℕ, _/_, min}
+use mathlib.Core.Path.{_≡_, sym, ap, _∙_}
+use mathlib.Core.List.{List}
+use lib.ListN.{length, take}
+use borrow.Author.Needs.{needs}
+use Rattle.sets.specs.Lists.{places}
+use Rattle.live.specs.Calls.{openAuction}
+use Rattle.console.specs.Orders.{startsOf}
+use Rattle.console.proofs.Prices.{all-starts}
+use Rattle.console.proofs.Enough.{first-33, part-length}
+use Rattle.console.proofs.open_by.Statement.{statement}
+use Rattle.console.proofs.open_by.Tie as tie
+use Rattle.console.proofs.open_by.Reads as reads
+use Rattle.console.proofs.open_by.Lts as lts
+use Rattle.console.proofs.least.Reads as least-reads
+use Rattle.console.proofs.rest.Reads as rest-reads
+use Rattle.console.proofs.starts.Reads as starts-reads
+use Rattle.live.proofs.open.Reads as open-reads
+
+starts-requires : tie.Need-starts-requires
+starts-requires c κs = search needs
+
+rest-requires : tie.Need-rest-requires
+rest-requires c κs = search needs
+
+least-requires : tie.Need-least-requires
+least-requires c κs = search needs
+
+array-share-prefix-start : tie.Need-array-share-prefix-start
+array-share-prefix-start c = search needs
+
+slice-aggregate-open : tie.Need-slice-aggregate-open
+slice-aggregate-open c =
+    let k = c .before .least .result in
+    part-length (startsOf (c .before .before .before .before .before .args .line .now)) (c .before .before .rest .result / 4) k (c .before .least .ensures)
+    ∙ ap (λ (xs : List ℕ). length (take k xs)) (sym (c .before .before .before .starts .ensures))
+
+open-requires : tie.Need-open-requires
+open-requires c κs = search needs
+
+returns : tie.Need-returns
+returns c =
+    let a = c .before .before .before .before .before .before .args in
+    let line = a .line .now in
+    let k = c .before .before .least .result in
+    let same : k ≡ min (length (startsOf line)) 33 =
+    c .before .before .least .ensures ∙ ap (λ (n : ℕ). min (n / 4) 33) (c .before .before .before .rest .ensures) ∙ ap (λ (n : ℕ). min n 33) (sym (all-starts line (c .before .before .before .before .before .before .pre) .0)) in
+    c .«open» .ensures ∙ ap (λ (xs : List ℕ). openAuction (a .items) (a .bidders) (take k xs)) (c .before .before .before .before .starts .ensures) ∙ first-33 (a .items) (a .bidders) (startsOf line) k same
+
+pub open-by-spec : {M : Type 1} → statement M
+open-by-spec =
+    tie.close
+    (tie.spec
+    starts-requires
+    rest-requires
+    least-requires
+    array-share-prefix-start
+    slice-aggregate-open
+    open-requires
+    returns)

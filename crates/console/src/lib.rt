@@ -1,0 +1,350 @@
+// The console of the live auction: what a line says, and what is answered to it. A line comes without its newline.
+//
+// `o` + 2 hexadecimal digits items + 2 bidders + 4 for each starting price opens; `r` + 2 digits bidder + 01 or 00 for null + 8 digits item set
+// reports; `e` ends the round; `c` clears the reports; `s` reads the close. Any other line is answered 06.
+use lines::Number;
+use live::Auction;
+use live::Ended;
+use live::Kind;
+use live::Reply;
+use live::Step;
+ghost use mathlib.Core.Path.{_≡_};
+ghost use mathlib.Core.Bool.{Bool, true, false, cond, _&&_};
+ghost use mathlib.Core.List.{_++_};
+ghost use mathlib.Core.Option.{Option·getD};
+ghost use Prim.Native.Nat.{ℕ, _+_, _*_, _-_, _/_, _≤_, _<_, min};
+ghost use lib.ListN.{length, getD};
+ghost use lib.Seq.{sets};
+ghost use Rattle.sets.specs.Lists.{places};
+ghost use Rattle.lines.specs.Lines.{hex};
+ghost use Rattle.lines.specs.Reading.{numberAt};
+ghost use Rattle.rule.specs.Round.{Round};
+ghost use Rattle.live.specs.Calls.{openAuction, endingOf, gives};
+ghost use Rattle.console.specs.Orders.{opening, reporting, orderOf, startsAt, startsOf};
+ghost use Rattle.console.specs.Answers.{numberText, numberLine, pricesText, opens, replies, ends, reads};
+ghost use Rattle.console.specs.Steps.{letterOrder, isRead, Puts, toldTo, Answers};
+
+// The order of a line. The starting prices of an opening stay in the line.
+pub enum Order {
+    Open(usize, usize),
+    Report(usize, bool, u32),
+    End,
+    Clear,
+    Read,
+    Unknown,
+}
+
+// How many bytes were answered, and the record to keep.
+pub struct Answered {
+    pub length: usize,
+    pub next: Auction,
+}
+
+// The first byte, and 0 where there is none.
+fn first_byte(line: &[u8]) -> u8
+    ensures { λ r. ⌜ r ≡ getD (now (line .entry)) 0 0 ⌝ }
+{
+    if 0 < line.len() {
+        return line[0];
+    }
+    0
+}
+
+// How many bytes stand behind the letter and the two counts.
+fn rest(line: &[u8]) -> usize
+    ensures { λ r. ⌜ r ≡ length (now (line .entry)) - 5 ⌝ }
+{
+    if line.len() < 5 {
+        return 0;
+    }
+    line.len() - 5
+}
+
+// Whether starting price i + 1 stands in the line.
+fn price_there(line: &[u8], i: usize) -> bool
+    requires { ⌜ 4 * i ≤ length (now line) ⌝ }
+    ensures { λ r. ⌜ r ≡ isRead (numberAt 4 (now (line .entry)) (5 + 4 * i)) ⌝ }
+{
+    let x = lines::number_at(line, 5 + 4 * i, 4);
+    match x {
+        Number::Is(_) => true,
+        Number::Nothing => false,
+    }
+}
+
+// Whether whole starting prices stand behind the counts.
+fn starts_there(line: &[u8]) -> bool
+    ensures { λ r. ⌜ r ≡ isRead (startsAt (now (line .entry))) ⌝ }
+{
+    let bytes = rest(line);
+    if bytes % 4 != 0 {
+        return false;
+    }
+    let count = bytes / 4;
+    let mut i: usize = 0;
+    while i < count {
+        if !price_there(line, i) {
+            return false;
+        }
+        i += 1;
+    }
+    true
+}
+
+// Starting price i + 1, and 0 past the last.
+fn price(line: &[u8], i: usize) -> u16
+    requires { ⌜ (isRead (startsAt (now line)) ≡ true) × (i < 33) ⌝ }
+    ensures { λ r. ⌜ r ≡ getD (startsOf (now (line .entry))) i 0 ⌝ }
+{
+    if rest(line) / 4 <= i {
+        return 0;
+    }
+    let x = lines::number_at(line, 5 + 4 * i, 4);
+    match x {
+        Number::Is(p) => p as u16,
+        Number::Nothing => 0,
+    }
+}
+
+// The first 33 starting prices: one more than there may be items, which is enough to tell that there are too many.
+fn starts(line: &[u8]) -> [u16; 33]
+    requires { ⌜ isRead (startsAt (now line)) ≡ true ⌝ }
+    ensures { λ r. ⌜ r ≡ places 33 (startsOf (now (line .entry))) ⌝ }
+{
+    let mut start = [0u16; 33];
+    let mut i: usize = 0;
+    while i < 33 {
+        start[i] = price(line, i);
+        i += 1;
+    }
+    start
+}
+
+fn least(a: usize, b: usize) -> usize
+    ensures { λ r. ⌜ r ≡ min a b ⌝ }
+{
+    if a < b { a } else { b }
+}
+
+// Opens with the line's starting prices.
+fn open_by(line: &[u8], items: usize, bidders: usize) -> Reply
+    requires { ⌜ isRead (startsAt (now line)) ≡ true ⌝ }
+    ensures { λ r. ⌜ r ≡ openAuction items bidders (startsOf (now (line .entry))) ⌝ }
+{
+    let start = starts(line);
+    let count = least(rest(line) / 4, 33);
+    live::open(items, bidders, &start[..count])
+}
+
+// The order of a line that starts with o.
+fn opening(line: &[u8]) -> Order
+    ensures { λ r. ⌜ r ≡ Option·getD (opening (now (line .entry))) Order.Unknown ⌝ }
+{
+    let Number::Is(items) = lines::number_at(line, 1, 2) else {
+        return Order::Unknown;
+    };
+    let Number::Is(bidders) = lines::number_at(line, 3, 2) else {
+        return Order::Unknown;
+    };
+    if !starts_there(line) {
+        return Order::Unknown;
+    }
+    Order::Open(items as usize, bidders as usize)
+}
+
+// The order of a line that starts with r.
+fn reporting(line: &[u8]) -> Order
+    ensures { λ r. ⌜ r ≡ Option·getD (reporting (now (line .entry))) Order.Unknown ⌝ }
+{
+    if line.len() != 13 {
+        return Order::Unknown;
+    }
+    let Number::Is(bidder) = lines::number_at(line, 1, 2) else {
+        return Order::Unknown;
+    };
+    let Number::Is(null) = lines::number_at(line, 3, 2) else {
+        return Order::Unknown;
+    };
+    let Number::Is(set) = lines::number_at(line, 5, 8) else {
+        return Order::Unknown;
+    };
+    if 1 < null {
+        return Order::Unknown;
+    }
+    Order::Report(bidder as usize, null == 1, set)
+}
+
+// The order of a line of one byte.
+fn letter(byte: u8) -> Order
+    ensures { λ r. ⌜ r ≡ letterOrder byte ⌝ }
+{
+    if byte == b'e' {
+        return Order::End;
+    }
+    if byte == b'c' {
+        return Order::Clear;
+    }
+    if byte == b's' {
+        return Order::Read;
+    }
+    Order::Unknown
+}
+
+// What a line says.
+pub fn order_of(line: &[u8]) -> Order
+    ensures { λ r. ⌜ r ≡ orderOf (now (line .entry)) ⌝ }
+{
+    let first = first_byte(line);
+    if first == b'o' {
+        return opening(line);
+    }
+    if first == b'r' {
+        return reporting(line);
+    }
+    if line.len() != 1 {
+        return Order::Unknown;
+    }
+    letter(first)
+}
+
+// A number in 2 decimal digits.
+fn put_text(out: &mut [u8], number: u8)
+    requires { ⌜ 2 ≤ length (now out) ⌝ }
+    ensures { λ _. ⌜ now (out .exit) ≡ sets (now (out .entry)) 0 (numberText number) ⌝ }
+{
+    out[0] = b'0' + number / 10;
+    out[1] = b'0' + number % 10;
+}
+
+// A number alone on its line.
+fn put_line(out: &mut [u8], number: u8)
+    requires { ⌜ 3 ≤ length (now out) ⌝ }
+    ensures { λ _. ⌜ now (out .exit) ≡ sets (now (out .entry)) 0 (numberLine number) ⌝ }
+{
+    put_text(out, number);
+    out[2] = b'\n';
+}
+
+// The answer to a report or a clear.
+fn replied(out: &mut [u8], reply: Reply) -> Answered
+    requires { ⌜ 274 ≤ length (now out) ⌝ }
+    ensures { λ r. ⌜ Puts (replies reply) (now (out .entry)) (now (out .exit)) r ⌝ }
+{
+    put_line(out, reply.number);
+    let next = reply.next;
+    Answered { length: 3, next }
+}
+
+// The record's prices, to the line's end.
+fn put_prices(out: &mut [u8], at: usize, held: Auction)
+    requires { ⌜ (held .items ≤ 32) × (at + 129 ≤ length (now out)) ⌝ }
+    ensures { λ _. ⌜ now (out .exit) ≡ sets (now (out .entry)) at (pricesText held) ⌝ }
+{
+    let items = held.items;
+    let prices = held.prices;
+    lines::write_prices(out, at, items, &prices);
+}
+
+// The answer to an opening.
+fn opened(out: &mut [u8], reply: Reply) -> Answered
+    requires { ⌜ (274 ≤ length (now out)) × (reply .number ≡ 0 → reply .next .items ≤ 32) ⌝ }
+    ensures { λ r. ⌜ Puts (opens reply) (now (out .entry)) (now (out .exit)) r ⌝ }
+{
+    let number = reply.number;
+    if number != 0 {
+        return replied(out, reply);
+    }
+    let next = reply.next;
+    put_text(out, 0);
+    put_prices(out, 2, next);
+    Answered {
+        length: 3 + 4 * next.items,
+        next,
+    }
+}
+
+// A round's number, kind and item set.
+fn put_round(out: &mut [u8], kind: u32, set: u32)
+    requires { ⌜ 12 ≤ length (now out) ⌝ }
+    ensures { λ _. ⌜ now (out .exit) ≡ sets (now (out .entry)) 0 (numberText 0 ++ (hex 2 kind ++ hex 8 set)) ⌝ }
+{
+    put_text(out, 0);
+    lines::write_number(out, 2, 2, kind);
+    lines::write_number(out, 4, 8, set);
+}
+
+// The answer to an end that was not turned down.
+fn moved(out: &mut [u8], kind: u32, set: u32, next: Auction) -> Answered
+    requires { ⌜ (274 ≤ length (now out)) × (next .items ≤ 32) ⌝ }
+    ensures { λ r. ⌜ Puts (record { bytes = numberText 0 ++ (hex 2 kind ++ hex 8 set) ++ pricesText next; next = next }) (now (out .entry)) (now (out .exit)) r ⌝ }
+{
+    put_round(out, kind, set);
+    put_prices(out, 12, next);
+    Answered {
+        length: 13 + 4 * next.items,
+        next,
+    }
+}
+
+// The answer to an end.
+fn ended(out: &mut [u8], step: Step) -> Answered
+    requires { ⌜ (274 ≤ length (now out)) × ((o : Round) → endingOf (step .ended) ≡ gives o → step .next .items ≤ 32) ⌝ }
+    ensures { λ r. ⌜ Puts (ends (endingOf (step .ended)) (step .next)) (now (out .entry)) (now (out .exit)) r ⌝ }
+{
+    let next = step.next;
+    let how = step.ended;
+    match how {
+        Ended::Moved(kind, set) => match kind {
+            Kind::Raised => moved(out, 1, set, next),
+            Kind::Lowered => moved(out, 2, set, next),
+        },
+        Ended::Closed => moved(out, 3, 0, next),
+        Ended::Refused(number) => replied(out, Reply { number, next }),
+    }
+}
+
+// The answer to a read: the sheet stands behind the number's line.
+fn shown(out: &mut [u8], held: Auction) -> Answered
+    requires { ⌜ 274 ≤ length (now out) ⌝ }
+    ensures { λ r. ⌜ Puts (reads held) (now (out .entry)) (now (out .exit)) r ⌝ }
+{
+    let number = held.read(&mut out[3..]);
+    put_line(out, number);
+    if number != 0 {
+        return Answered {
+            length: 3,
+            next: held,
+        };
+    }
+    Answered {
+        length: 18 + 4 * held.items + 2 * held.bidders,
+        next: held,
+    }
+}
+
+// Answers a line: what is written to the front of `out`, and the record to keep. Where `out` has fewer than 274 bytes nothing is done.
+pub fn answer(held: Auction, line: &[u8], out: &mut [u8]) -> Answered
+    ensures { λ r. ⌜ Answers (toldTo held (now (line .entry)) (length (now (out .entry)))) (now (out .entry)) (now (out .exit)) r ⌝ }
+{
+    if out.len() < 274 {
+        return Answered {
+            length: 0,
+            next: held,
+        };
+    }
+    let o = order_of(line);
+    match o {
+        Order::Open(items, bidders) => opened(out, open_by(line, items, bidders)),
+        Order::Report(bidder, null, set) => replied(out, held.report(bidder, null, set)),
+        Order::End => ended(out, held.end()),
+        Order::Clear => replied(out, held.clear()),
+        Order::Read => shown(out, held),
+        Order::Unknown => replied(
+            out,
+            Reply {
+                number: 6,
+                next: held,
+            },
+        ),
+    }
+}
