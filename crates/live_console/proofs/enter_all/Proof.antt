@@ -1,0 +1,56 @@
+-- `live_console::enter_all` meets its contract. Assumes nothing.
+use Prim.Native.Nat.{_-_, _≤_}
+use mathlib.Core.Path.{_≡_, refl}
+use native.Mathlib.Omega.{arith}
+use lib.ListN.{length}
+use borrow.Author.Needs.{needs}
+use Rattle.live_console.proofs.enter_all.Statement.{statement}
+use Rattle.live_console.proofs.enter_all.Tie as tie
+use Rattle.live_console.proofs.enter_all.Reads as reads
+use Rattle.live_console.proofs.enter_all.Lts as lts
+use Rattle.live_console.proofs.enter.Reads as enter-reads
+
+abbrev Inv-loop : tie.InvT-loop
+Inv-loop line₀ bytes next₀ i₀ line next i = (length line ≡ length line₀) × (i ≤ length bytes)
+
+abbrev μ-loop : tie.MeasureT-loop
+μ-loop line₀ bytes next₀ i₀ line next i = length bytes - i
+
+loop-holds : tie.Need-loop-holds Inv-loop μ-loop
+loop-holds c = (refl, omega arith)
+
+shared-slice-read-enter : tie.Need-shared-slice-read-enter Inv-loop μ-loop
+shared-slice-read-enter c = search needs
+
+enter-requires : tie.Need-enter-requires Inv-loop μ-loop
+enter-requires c κs = search needs
+
+add-i : tie.Need-add-i Inv-loop μ-loop
+add-i c = search needs
+
+loop-less : tie.Need-loop-less Inv-loop μ-loop
+loop-less c = search needs
+
+loop-again : tie.Need-loop-again Inv-loop μ-loop
+loop-again c = search needs
+
+same-length : tie.Need-same-length Inv-loop μ-loop
+same-length c = search needs
+
+returns : tie.Need-returns Inv-loop μ-loop
+returns c = search needs
+
+pub enter-all-spec : {M : Type 1} → statement M
+enter-all-spec =
+    tie.close
+    (tie.spec
+    Inv-loop
+    μ-loop
+    loop-holds
+    shared-slice-read-enter
+    enter-requires
+    add-i
+    loop-less
+    loop-again
+    same-length
+    returns)
