@@ -2,20 +2,20 @@
 
 use crate::program::run;
 use crate::Tally;
-use model::console::{line, opening_line, Console};
+use model::console::{line, opening_line, Console, LONGEST};
 use model::generate::{calls, live_sheet, Reporting};
-use model::live::{Answer, Call, Record};
+use model::live::{Answer, Call};
 use model::machine::Machine;
 use model::random::Random;
 use model::Sheet;
 
 /// The lists of one run of the program.
-const BATCH: usize = 60;
+const BATCH: usize = 100;
 
 /// A line that is no order, or an order that is refused.
 fn damaged(good: &str, r: &mut Random) -> Vec<u8> {
     let mut bytes = good.as_bytes().to_vec();
-    match r.within(0, 7) {
+    match r.within(0, 8) {
         0 => bytes.clear(),
         1 => bytes.push(*r.pick(b"0f \r")),
         2 => {
@@ -27,7 +27,8 @@ fn damaged(good: &str, r: &mut Random) -> Vec<u8> {
             bytes[at] = *r.pick(b"GA\x80 \0");
         }
         5 => bytes = format!("o{:02x}{:02x}", r.pick(&[0, 1, 33, 255]), r.pick(&[0, 1, 65, 255])).into_bytes(),
-        6 => bytes = format!("r{:02x}{:02x}{:08x}", r.within(0, 70), r.within(0, 3), r.draw() as u32).into_bytes(),
+        6 => bytes = format!("o01{:02x}{:04x}", r.within(1, 3), r.pick(&[0u16, 4_095, 4_096, 65_535])).into_bytes(),
+        7 => bytes = format!("r{:02x}{:02x}{:08x}", r.within(0, 70), r.within(0, 3), r.draw() as u32).into_bytes(),
         _ => bytes = (0..r.within(1, 20)).map(|_| *r.pick(b"orecs0123456789abcdef")).collect(),
     }
     bytes.retain(|&b| b != b'\n');
@@ -76,7 +77,16 @@ fn by_machine(s: &Sheet, list: &[Call]) -> Option<Vec<String>> {
 struct List {
     lines: Vec<Vec<u8>>,
     answers: Vec<String>,
-    agrees: bool,
+    /// What the plain machine answers, if it stays on the sheet; the same as the record's, or it is a fault.
+    machine: Option<bool>,
+}
+
+impl List {
+    fn new(lines: Vec<Vec<u8>>) -> List {
+        let mut console = Console::new();
+        let answers = lines.iter().map(|l| console.answer(l)).collect();
+        List { lines, answers, machine: None }
+    }
 }
 
 fn list(k: usize, r: &mut Random) -> List {
@@ -86,48 +96,70 @@ fn list(k: usize, r: &mut Random) -> List {
     let room = |call: Call| if matches!(call, Call::Read { .. }) { Call::Read { room: 271 } } else { call };
     let calls: Vec<Call> = calls(&s, reporting, 250, r).into_iter().map(room).collect();
     let damage = k % 3 == 0;
-    let lines = lines(&s, &calls, damage, r);
-    let mut console = Console::new();
-    let answers: Vec<String> = lines.iter().map(|l| console.answer(l)).collect();
-    let agrees = damage || by_machine(&s, &calls).is_none_or(|by| by == answers);
-    List { lines, answers, agrees }
+    let mut list = List::new(lines(&s, &calls, damage, r));
+    if !damage {
+        list.machine = by_machine(&s, &calls).map(|by| by == list.answers);
+    }
+    list
 }
 
-/// Lines before any opening: the record is the one of zeros, and every call on it gives 11.
-fn before_opening() -> List {
-    let lines: Vec<Vec<u8>> = ["e", "c", "s", "r010100000000", "x", ""].iter().map(|l| l.as_bytes().to_vec()).collect();
-    let mut console = Console { record: Record::zeros() };
-    let answers = lines.iter().map(|l| console.answer(l)).collect();
-    List { lines, answers, agrees: true }
+/// Lines before any opening, when the record is the one of zeros and every call on it gives 11; openings with too many starting
+/// prices; lines as long as the program takes, and longer.
+fn edges() -> List {
+    let prices = |count: usize| format!("o2040{}", "0000".repeat(count));
+    let texts = ["e", "c", "s", "r010100000000", "x", ""].map(String::from);
+    let long = [32, 31, 33, 34, 1_000, (LONGEST - 5) / 4, 2_000].map(prices);
+    let letters = [LONGEST, LONGEST + 1, 10_000].map(|n| "e".repeat(n));
+    List::new([&texts[..], &long[..], &letters[..], &texts[..]].concat().into_iter().map(String::into_bytes).collect())
 }
 
-/// Runs the program on some lists, one after the other, and compares list by list.
-fn compare(lists: &[List], tally: &mut Tally) {
-    let input: Vec<u8> = lists.iter().flat_map(|l| &l.lines).flat_map(|l| [&l[..], b"\n"].concat()).collect();
-    let written = match run("live_console", &input) {
+fn written(input: &[u8]) -> String {
+    match run("live_console", input) {
         Ok(bytes) => String::from_utf8_lossy(&bytes).into_owned(),
         Err(error) => format!("(it did not run: {error})"),
-    };
+    }
+}
+
+/// Runs the program on some lists, one after the other, and compares list by list. Each list but the first opens.
+fn compare(lists: &[List], tally: &mut Tally) {
+    let input: Vec<u8> = lists.iter().flat_map(|l| &l.lines).flat_map(|l| [&l[..], b"\n"].concat()).collect();
+    let written = written(&input);
     let mut rest = &written[..];
     for l in lists {
         let expected = l.answers.concat();
         let same = rest.starts_with(&expected);
-        tally.expect(same && l.agrees, || {
+        tally.expect(same && l.machine != Some(false), || {
             let orders: Vec<_> = l.lines.iter().map(|x| String::from_utf8_lossy(x).into_owned()).collect();
-            let agree = if l.agrees { "" } else { " (machine and record do not agree)" };
             let begun: String = rest.chars().take(expected.len()).collect();
-            format!("live list{agree}: {:?}\nexpected {expected:?}\nwritten {begun:?}", orders.join(" "))
+            format!("live list: {:?}\nexpected {expected:?}, machine {:?}\nwritten {begun:?}", orders.join(" "), l.machine)
         });
         rest = if same { &rest[expected.len()..] } else { "" };
     }
     tally.expect(rest.is_empty(), || format!("live_console wrote more: {:?}", rest.chars().take(200).collect::<String>()));
 }
 
+/// Every number that a console can give was given, every kind of round was had, closes were read, and the machine stayed on many
+/// sheets: the lists try what they are meant to.
+fn reached(lists: &[List], tally: &mut Tally) {
+    let answers = || lists.iter().flat_map(|l| &l.answers);
+    for start in
+        ["01", "02", "03", "04", "06", "07", "08", "11", "12", "13", "14", "15", "16", "17", "0001", "0002", "0003", "00\n0"]
+    {
+        let times = answers().filter(|a| a.starts_with(start)).count();
+        tally.expect(times * 100 > lists.len(), || format!("only {times} answers start with {start:?}"));
+    }
+    let stayed = lists.iter().filter(|l| l.machine.is_some()).count();
+    tally.expect(stayed * 5 > lists.len(), || format!("the machine stayed on {stayed} sheets only"));
+}
+
 pub fn all(count: u64, seed: u64) -> Tally {
     let mut r = Random::new(seed + 4);
-    let mut lists = vec![before_opening()];
-    lists.extend((0..count as usize).map(|k| list(k, &mut r)));
     let mut tally = Tally::default();
+    compare(&[edges()], &mut tally);
+    let lists: Vec<List> = (0..count as usize).map(|k| list(k, &mut r)).collect();
     lists.chunks(BATCH).for_each(|batch| compare(batch, &mut tally));
+    reached(&lists, &mut tally);
+    tally.expect(written(b"e\ns") == "11\n11\n", || "a last line without a newline is a line too".into());
+    tally.expect(written(b"").is_empty(), || "no line, no answer".into());
     tally
 }

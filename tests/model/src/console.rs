@@ -1,11 +1,15 @@
 //! The lines of the console program: orders in, an answer for each out, the record kept between.
 //!
 //! `o` + 2 hexadecimal digits items + 2 bidders + 4 for each starting price opens; `r` + 2 digits bidder + 01 or 00 for null +
-//! 8 digits item set reports; `e` ends the round; `c` clears; `s` reads the close. Anything else is 06.
+//! 8 digits item set reports; `e` ends the round; `c` clears; `s` reads the close. Anything else is 06, and so is any longer line
+//! than the program takes.
 
 use crate::live::{Answer, Call, Record, Report};
 use crate::sheet::{number, numbers};
 use crate::Kind;
+
+/// The longest line that the program looks at.
+pub const LONGEST: usize = 4_096;
 
 /// The program, with its record.
 pub struct Console {
@@ -25,6 +29,7 @@ impl Console {
     /// What is written after a line, the last newline included. The line comes without its newline.
     pub fn answer(&mut self, line: &[u8]) -> String {
         match line {
+            _ if line.len() > LONGEST => "06\n".into(),
             [b'o', rest @ ..] => self.opened(rest),
             b"e" => self.called(Call::End),
             b"c" => self.called(Call::Clear),
