@@ -1,13 +1,13 @@
 -- An answer by its order, with room for it. Assumes nothing.
-use Prim.Native.Nat.{ℕ, zero, suc, _+_, _≤_, _<_}
+use Prim.Native.Nat.{ℕ, zero, suc, _≤_, _<_}
 use mathlib.Core.Path.{_≡_, refl, sym, ap, _∙_, subst}
 use mathlib.Core.Bool.{Bool, true, false, cond, true≢false}
 use mathlib.Core.List.{List, [], _∷_}
 use mathlib.Core.Option.{Option, none, some, Option·getD}
 use native.Mathlib.Omega.{arith}
-use lib.Dec.{leb, ltb, eqb}
-use lib.ListN.{length, take}
-use lib.Seq.{sets, length-sets, length-take-le}
+use lib.Dec.{leb, eqb}
+use lib.ListN.{length}
+use lib.Seq.{length-sets, length-take-le}
 use borrow.Author.Tests.{lt-ltb, le-ltb}
 use Rattle.rule.specs.Round.{Round, raised, lowered, closed}
 use Rattle.rule.specs.Refusal.{on, badItems, badBidders, badLength, anyOver}

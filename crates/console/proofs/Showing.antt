@@ -4,13 +4,12 @@ use mathlib.Core.Path.{_≡_, refl, sym, ap, _∙_, subst}
 use mathlib.Core.Bool.{Bool, true, false, not}
 use mathlib.Core.List.{List, [], _∷_, _++_, append-assoc, append-nil}
 use native.Mathlib.Omega.{arith}
-use lib.Dec.{ltb}
 use lib.ListN.{length, set, take, drop, replicate, length-append, length-drop, length-replicate, take-append-drop}
 use lib.Seq.{sets, sets-eq, set-comm, take-all, drop-drop}
 use borrow.Author.Tests.{le-ltb, not-false}
 use borrow.Rule.Slice.PartMut.{midOf, postOf, putMid}
 use Rattle.rule.specs.Refusal.{Refusal, on, first}
-use Rattle.rule.proofs.Refusal.{passed, given}
+use Rattle.rule.proofs.Refusal.{given}
 use Rattle.lines.specs.Lines.{newline, closingLength, writtenTo}
 use Rattle.lines.proofs.Stores.{sets-then}
 use Rattle.lines.proofs.Lengths.{closing-length}

@@ -1,16 +1,16 @@
 -- The bytes of an answer, put one after the other. Assumes nothing.
-use Prim.Native.Nat.{ℕ, zero, suc, _+_, _*_, _/_, _%_, _≤_, _<_}
+use Prim.Native.Nat.{ℕ, zero, suc, _+_, _*_, _/_, _%_, _≤_}
 use mathlib.Core.Path.{_≡_, refl, sym, ap, _∙_, subst}
-use mathlib.Core.Bool.{Bool, true, false, cond}
-use mathlib.Core.List.{List, [], _∷_, _++_, append-assoc}
+use mathlib.Core.Bool.{Bool, cond}
+use mathlib.Core.List.{List, _++_}
 use native.Mathlib.Omega.{arith}
 use lib.Dec.{leb}
-use lib.ListN.{length, set, take, length-append}
-use lib.Seq.{sets, length-sets, take-all, length-take-le}
-use borrow.Author.Tests.{le-leb, lt-ltb, le-ltb}
-use Rattle.rule.specs.Round.{Round, raised, lowered, closed}
-use Rattle.lines.specs.Lines.{hex, newline, pricesLine, hasRoom, writtenTo}
-use Rattle.lines.proofs.Stores.{sets-then, sets-front}
+use lib.ListN.{length, set, length-append}
+use lib.Seq.{sets, length-sets}
+use borrow.Author.Tests.{le-leb}
+use Rattle.rule.specs.Round.{raised, lowered, closed}
+use Rattle.lines.specs.Lines.{hex, newline, pricesLine, hasRoom}
+use Rattle.lines.proofs.Stores.{sets-then}
 use Rattle.lines.proofs.Lengths.{hex-length, line-length}
 use Rattle.lines.proofs.Written.{room-priced}
 use Rattle.live.specs.Calls.{Ending, gives, refused}

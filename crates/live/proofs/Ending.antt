@@ -1,9 +1,8 @@
 -- The ways of an end: its number, the round that the reports give, and what is handed back. Assumes nothing.
-use Prim.Native.Nat.{ℕ, zero, suc, _≤_, _<_}
+use Prim.Native.Nat.{ℕ, zero, suc, _<_}
 use mathlib.Core.Path.{_≡_, refl, sym, ap, _∙_, subst}
-use mathlib.Core.Bool.{Bool, true, false, _&&_, not, true≢false}
+use mathlib.Core.Bool.{Bool, true, false, _&&_, not}
 use mathlib.Core.List.{List, [], _∷_}
-use native.Mathlib.Omega.{arith}
 use lib.Dec.{eqb}
 use borrow.Author.Tests.{eq-eqb, ne-eqb}
 use Rattle.sets.specs.Bit.{has}
@@ -12,11 +11,11 @@ use Rattle.sets.proofs.Counting.{is-false, not-both, and-left, any-use}
 use Rattle.sets.proofs.Members.{empty-has}
 use Rattle.rule.specs.Sheet.{amount}
 use Rattle.rule.specs.Round.{Round, raised, lowered, closed, round, roundFalling}
-use Rattle.rule.specs.Refusal.{Refusal, on, first}
+use Rattle.rule.specs.Refusal.{on, first}
 use Rattle.rule.proofs.Refusal.{passed, given}
-use Rattle.live.specs.Auction.{missing, aboveZero, reportsOf, risingSet, fallingSet, wellFormed}
-use Rattle.live.specs.Calls.{isClosed, isFalling, isRising, clearNumber, atTop, endNumber, ruled, roundBy, settled, Ending, gives, refused, endingOf, endAnswer, endNext}
-use Rattle.live.specs.Tidy.{Ready, Calm}
+use Rattle.live.specs.Auction.{missing, aboveZero, reportsOf, risingSet, fallingSet}
+use Rattle.live.specs.Calls.{isFalling, isRising, clearNumber, atTop, endNumber, ruled, roundBy, settled, gives, refused, endingOf, endAnswer, endNext}
+use Rattle.live.specs.Tidy.{Ready}
 use Rattle.live.specs.declared.Auction.{Auction}
 use Rattle.live.specs.declared.Step.{Step}
 use Rattle.live.specs.declared.Phase.{Phase}

@@ -1,6 +1,6 @@
 -- A well formed record, taken apart into what its clauses say, and put together again. Assumes nothing.
 use Prim.Native.Nat.{ℕ, zero, suc, _≤_, _<_}
-use mathlib.Core.Path.{_≡_, refl, sym, ap, _∙_}
+use mathlib.Core.Path.{_≡_, refl, ap}
 use mathlib.Core.Bool.{Bool, true, false, _&&_, _||_, not}
 use mathlib.Core.List.{List}
 use native.Mathlib.Omega.{arith}
@@ -8,14 +8,13 @@ use native.Mathlib.Decide.{decLe}
 use lib.Dec.{eqb, leb, ltb}
 use lib.ListN.{length, getD, List·getD-eq-default}
 use borrow.Author.Tests.{ltb-false, le-ltb, le-leb, leb-true, eqb-true, eq-eqb}
-use Rattle.sets.specs.Count.{_⇒_, allBelow, anyBelow}
+use Rattle.sets.specs.Count.{_⇒_, anyBelow}
 use Rattle.sets.proofs.Counting.{and-left, and-right, and-both, all-use, all-make, any-use, any-make, imp-use, imp-make, is-false, not-both, not-is}
 use Rattle.rule.specs.Sheet.{amount}
 use Rattle.rule.specs.Refusal.{badItems, badBidders, anyOver}
 use Rattle.live.specs.Auction.{place, hasReported, isEmpty, beyond, unfit, countsFit, pricesFit, unusedPrices, unusedPlaces, unusedBits, reportedFit, othersEmpty, roundsFit, closeFits, wellFormed}
 use Rattle.live.specs.Tidy.{Tidy}
 use Rattle.live.specs.declared.Auction.{Auction}
-use Rattle.live.specs.declared.Phase.{Phase}
 
 pub or-left-false : (a b : Bool) → a || b ≡ false → a ≡ false
 or-left-false false b e = refl

@@ -1,22 +1,20 @@
 -- The ways of a read: the names and the sheet of a record whose unused places and bits are zero, and the number. Assumes nothing.
-use Prim.Native.Nat.{ℕ, zero, suc, _+_, _*_, _≤_, _<_}
+use Prim.Native.Nat.{ℕ, zero, suc, _≤_, _<_}
 use mathlib.Core.Path.{_≡_, refl, sym, ap, _∙_}
 use mathlib.Core.Bool.{Bool, true, false, _&&_, not, cond}
 use mathlib.Core.List.{List, [], _∷_}
 use mathlib.Core.Logic.{_⊎_, inl, inr}
 use native.Mathlib.Omega.{arith}
 use lib.Dec.{leb, ltb}
-use lib.ListN.{length, getD}
+use lib.ListN.{length}
 use borrow.Author.Tests.{le-leb, lt-leb, lt-ltb, le-ltb}
 use Rattle.sets.specs.Lists.{places}
 use Rattle.sets.proofs.Counting.{lt-or-le}
 use Rattle.sets.proofs.Lists.{places-at}
 use Rattle.sets.proofs.Members.{setOf-lt}
 use Rattle.rule.specs.Excess.{positive}
-use Rattle.rule.specs.Assignment.{assignment}
-use Rattle.rule.specs.Refusal.{Refusal, on, first}
+use Rattle.rule.specs.Refusal.{on, first}
 use Rattle.rule.proofs.Refusal.{passed, given}
-use Rattle.round.specs.Reports.{reports}
 use Rattle.assignment.specs.Assigned.{assigned}
 use Rattle.assignment.proofs.Unfit.{assigned-is}
 use Rattle.assignment.proofs.Narrowing.{assignment-narrow}

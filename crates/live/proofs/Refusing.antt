@@ -2,11 +2,10 @@
 -- nothing.
 use Prim.Native.Nat.{ℕ, zero, suc, _≤_, _<_}
 use mathlib.Core.Path.{_≡_, refl, sym, ap, _∙_}
-use mathlib.Core.Bool.{Bool, true, false, _||_, not, true≢false}
+use mathlib.Core.Bool.{Bool, true, false, not}
 use mathlib.Core.List.{List, [], _∷_}
 use native.Mathlib.Omega.{arith}
-use lib.Dec.{ltb}
-use borrow.Author.Tests.{lt-ltb, le-ltb, ltb-false, not-false}
+use borrow.Author.Tests.{lt-ltb, le-ltb, not-false}
 use Rattle.rule.specs.Demand.{Demand}
 use Rattle.rule.specs.Refusal.{Refusal, on, first, badBidder}
 use Rattle.rule.proofs.Refusal.{passed, given}
@@ -14,6 +13,7 @@ use Rattle.live.specs.Auction.{hasReported, unfit, wellFormed}
 use Rattle.live.specs.Calls.{isClosed, clearNumber, reportNumber}
 use Rattle.live.specs.declared.Auction.{Auction}
 use Rattle.live.specs.declared.Reply.{Reply}
+use Rattle.live.proofs.Formed.{in-range, range-in}
 
 -- no number: the condition fails, and no later number is given
 pub none : (n : ℕ) (a : Bool) (rest : List Refusal) → first (on (suc n) a ∷ rest) ≡ 0 → (a ≡ false) × (first rest ≡ 0)
@@ -81,19 +81,6 @@ bad-high : (n b : ℕ) → 1 ≤ b → n < b → badBidder n b ≡ true
 unfolding badBidder
 bad-high n b l h = simp (le-ltb b 1 l, lt-ltb n b h)
 
-bad-none : (n b : ℕ) → badBidder n b ≡ false → (1 ≤ b) × (b ≤ n)
-unfolding badBidder
-bad-none n b e = go (ltb b 1) (ltb n b) refl refl e
-  where
-    go : (x y : Bool) → ltb b 1 ≡ x → ltb n b ≡ y → x || y ≡ false → (1 ≤ b) × (b ≤ n)
-    go true y f g q = absurd (true≢false q)
-    go false true f g q = absurd (true≢false q)
-    go false false f g q = (ltb-false b 1 f, ltb-false n b g)
-
-pub bad-not : (n b : ℕ) → 1 ≤ b → b ≤ n → badBidder n b ≡ false
-unfolding badBidder
-bad-not n b l h = simp (le-ltb b 1 l, le-ltb n b h)
-
 module _ (r : Auction) (b : ℕ) (d : Demand) (s : Stands r) where
   abbrev after-7 : List Refusal
   after-7 = on 13 (hasReported r b) ∷ on 8 (unfit (r .items) d) ∷ []
@@ -111,7 +98,7 @@ module _ (r : Auction) (b : ℕ) (d : Demand) (s : Stands r) where
   module _ (l : 1 ≤ b) (h : b ≤ r .bidders) where
     past-7 : first after-7 ≡ reportNumber r b d
     unfolding reportNumber
-    past-7 = sym (passed 7 (badBidder (r .bidders) b) after-7 (bad-not (r .bidders) b l h)) ∙ later r (on 7 (badBidder (r .bidders) b) ∷ after-7) s
+    past-7 = sym (passed 7 (badBidder (r .bidders) b) after-7 (unfold badBidder in range-in (r .bidders) b l h)) ∙ later r (on 7 (badBidder (r .bidders) b) ∷ after-7) s
 
     pub thirteen : hasReported r b ≡ true → 13 ≡ reportNumber r b d
     thirteen e = sym (given 13 (hasReported r b) (on 8 (unfit (r .items) d) ∷ []) e) ∙ past-7
@@ -124,10 +111,10 @@ module _ (r : Auction) (b : ℕ) (d : Demand) (s : Stands r) where
 
 -- a report that gets no number is of a bidder
 pub of-bidder : (r : Auction) (b : ℕ) (d : Demand) → 0 ≡ reportNumber r b d → (1 ≤ b) × (b ≤ r .bidders)
-unfolding reportNumber
+unfolding reportNumber badBidder
 of-bidder r b d e =
     let rest = on 7 (badBidder (r .bidders) b) ∷ on 13 (hasReported r b) ∷ on 8 (unfit (r .items) d) ∷ [] in
-    bad-none (r .bidders) b (none 6 (badBidder (r .bidders) b) (on 13 (hasReported r b) ∷ on 8 (unfit (r .items) d) ∷ []) (no-later r rest (sym e)) .0)
+    in-range (r .bidders) b (none 6 (badBidder (r .bidders) b) (on 13 (hasReported r b) ∷ on 8 (unfit (r .items) d) ∷ []) (no-later r rest (sym e)) .0)
 
 pub report-stands : (r : Auction) (b : ℕ) (d : Demand) → 0 ≡ reportNumber r b d → Stands r
 unfolding reportNumber

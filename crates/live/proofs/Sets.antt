@@ -1,7 +1,7 @@
 -- The two sets of a record whose unused places and bits are zero: what round finds at 32 items and 64 bidders holds at the record's own counts. Assumes
 -- nothing.
-use Prim.Native.Nat.{ℕ, suc, _+_, _^_, _≤_, _<_}
-use mathlib.Core.Path.{_≡_, sym, ap, _∙_}
+use Prim.Native.Nat.{ℕ, suc, _^_, _≤_, _<_}
+use mathlib.Core.Path.{_≡_, ap, _∙_}
 use mathlib.Core.Bool.{Bool, true, false, _&&_, not}
 use mathlib.Core.List.{List}
 use mathlib.Core.Logic.{_⊎_, inl, inr}
@@ -9,7 +9,7 @@ use native.Mathlib.Omega.{arith}
 use lib.Dec.{leb, eqb}
 use lib.ListN.{length, getD, List·getD-eq-default}
 use borrow.Author.Tests.{le-leb, eqb-true}
-use Rattle.sets.specs.Bit.{isSet, has}
+use Rattle.sets.specs.Bit.{has}
 use Rattle.sets.specs.Count.{toNat, anyBelow}
 use Rattle.sets.proofs.Counting.{lt-or-le, and-right, and-both, is-false, not-both, any-make}
 use Rattle.sets.proofs.Members.{setOf-lt, isSet-small}

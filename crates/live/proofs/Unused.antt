@@ -1,13 +1,13 @@
 -- The clauses of number 11 that a loop tests place by place: where it fails, where it goes on, and what holds at its end. Assumes nothing.
 use mathlib.Core.Path.{_≡_, refl, ap, sym, _∙_}
 use mathlib.Core.Bool.{Bool, true, false, _&&_, _||_, not}
-use Prim.Native.Nat.{ℕ, zero, suc, _+_, _-_, _^_, _≤_, _<_}
+use Prim.Native.Nat.{ℕ, suc, _≤_, _<_}
 use native.Mathlib.Omega.{arith}
 use lib.Dec.{leb, eqb}
 use lib.ListN.{getD}
 use borrow.Author.Tests.{le-leb, lt-leb, eq-eqb, ne-eqb, eqb-true}
 use Rattle.sets.specs.Count.{_⇒_, allBelow, anyBelow}
-use Rattle.sets.specs.Bit.{has, setOf}
+use Rattle.sets.specs.Bit.{has}
 use Rattle.sets.proofs.Counting.{all-use, all-make, imp-make, imp-use, is-false, any-use, any-make, not-both, and-both, and-left, and-right, or-right}
 use Rattle.rule.specs.Sheet.{amount}
 use Rattle.live.specs.Auction.{place, isEmpty, beyond, unfit, hasReported, unusedPrices, unusedPlaces, unusedBits, missing, reportedFit, othersEmpty}

@@ -10,11 +10,10 @@ ghost use Rattle.sets.specs.Count.{_⇒_, anyBelow};
 ghost use Rattle.sets.specs.Bit.{has, setOf};
 ghost use Rattle.sets.specs.Lists.{places};
 ghost use Rattle.rule.specs.Sheet.{amount, priceSum};
-ghost use Rattle.rule.specs.Demand.{Demand};
+ghost use Rattle.rule.specs.Round.{raised, lowered, closed};
 ghost use Rattle.lines.specs.Lines.{writtenTo};
 ghost use Rattle.live.specs.Auction.{place, hasReported, isEmpty, beyond, unfit, countsFit, pricesFit, unusedPrices, unusedPlaces, unusedBits, reportedFit, othersEmpty, missing, roundsFit, closeFits, risingSet, fallingSet, wellFormed};
 ghost use Rattle.live.specs.Calls.{zeros, unopened, openAuction, cleared, withReport, saying, isClosed, reportNumber, report, clearNumber, clear, atTop, settled, endingOf, endAnswer, endNext};
-ghost use Rattle.rule.specs.Round.{raised, lowered, closed};
 ghost use Rattle.live.specs.declared.Phase.the-variants.{Rising, Falling};
 ghost use Rattle.live.specs.declared.Kind.the-variants.{Raised, Lowered};
 ghost use Rattle.live.specs.declared.Ended.the-variants.{Moved, Refused};
@@ -95,6 +94,7 @@ fn refuses(items: usize, null: bool, set: u32) -> bool
     set == 0
 }
 
+// a price where a sum is made
 fn wide(x: u16) -> u32
     ensures { λ r. ⌜ (r ≡ x) × (r ≤ 65535) ⌝ }
 {
@@ -178,7 +178,9 @@ pub fn open(items: usize, bidders: usize, start: &[u16]) -> Reply
 }
 
 impl Auction {
-    // the clauses of number 11
+    // ---- number 11, clause by clause: what a well formed record keeps
+
+    // not: a count is outside 1 or 2
     fn counts_fit(self) -> bool
         ensures { λ r. ⌜ r ≡ countsFit self ⌝ }
     {
@@ -194,6 +196,7 @@ impl Auction {
         self.bidders <= 64
     }
 
+    // not: a price exceeds 4,095
     fn prices_fit(self) -> bool
         ensures { λ r. ⌜ r ≡ pricesFit self ⌝ }
     {
@@ -201,6 +204,7 @@ impl Auction {
         !round::any_over(&prices)
     }
 
+    // not: an unused place or bit is not zero. Prices past the items
     fn unused_prices(self) -> bool
         ensures { λ r. ⌜ r ≡ unusedPrices self ⌝ }
     {
@@ -214,6 +218,7 @@ impl Auction {
         true
     }
 
+    // reports, and bits of bidders, past the bidders
     fn unused_places(self) -> bool
         ensures { λ r. ⌜ r ≡ unusedPlaces self ⌝ }
     {
@@ -233,6 +238,7 @@ impl Auction {
         true
     }
 
+    // bits of item sets past the items
     fn unused_bits(self) -> bool
         ensures { λ r. ⌜ r ≡ unusedBits self ⌝ }
     {
@@ -262,6 +268,7 @@ impl Auction {
         set == 0
     }
 
+    // not: the report of a bidder who has reported is one that 8 refuses; not: that of one who has not is not empty
     fn reports_fit(self) -> bool
         requires { ⌜ self .bidders ≤ 64 ⌝ }
         ensures { λ r. ⌜ r ≡ reportedFit self && othersEmpty self ⌝ }
@@ -274,21 +281,6 @@ impl Auction {
             k += 1;
         }
         true
-    }
-
-    // a report is missing
-    fn misses(self) -> bool
-        requires { ⌜ self .bidders ≤ 64 ⌝ }
-        ensures { λ r. ⌜ r ≡ missing self ⌝ }
-    {
-        let mut k: usize = 0;
-        while k < self.bidders {
-            if !sets::has_bidder(self.reported, k + 1) {
-                return true;
-            }
-            k += 1;
-        }
-        false
     }
 
     // the sum of the prices
@@ -305,42 +297,6 @@ impl Auction {
         sum
     }
 
-    // the report takes its bidder's place, and the bidder has reported
-    fn with_report(self, bidder: usize, null: bool, set: u32) -> Auction
-        requires { ⌜ (1 ≤ bidder) × (bidder ≤ 64) ⌝ }
-        ensures { λ r. ⌜ r ≡ withReport self bidder (saying null set) ⌝ }
-    {
-        let k = bidder - 1;
-        let mut next = self;
-        next.sets[k] = set;
-        next.nulls = round::add_bidder(next.nulls, bidder, null);
-        next.reported = sets::with_bidder(next.reported, bidder);
-        next
-    }
-
-    // no reports
-    fn cleared(self) -> Auction
-        ensures { λ r. ⌜ r ≡ cleared self ⌝ }
-    {
-        let mut next = self;
-        next.sets = [0; 64];
-        next.nulls = 0;
-        next.reported = 0;
-        next
-    }
-
-    // the phase is closed
-    fn is_closed(self) -> bool
-        ensures { λ r. ⌜ r ≡ isClosed (self .phase) ⌝ }
-    {
-        let phase = self.phase;
-        match phase {
-            Phase::Rising => false,
-            Phase::Falling => false,
-            Phase::Closed => true,
-        }
-    }
-
     // while falling or closed: the rounds raised, and the sum of prices with the rounds lowered, are at most 4,095 × items
     fn rounds_within(self, sum: u32) -> bool
         requires { ⌜ (self .items ≤ 32) × (sum ≡ priceSum (self .items) (self .prices)) ⌝ }
@@ -353,6 +309,7 @@ impl Auction {
         (sum as u64) + (self.lowered as u64) <= most
     }
 
+    // not: while rising, any round was lowered or the rounds raised exceed the sum of prices; while falling or closed, as above
     fn rounds_fit(self) -> bool
         requires { ⌜ self .items ≤ 32 ⌝ }
         ensures { λ r. ⌜ r ≡ roundsFit (self .phase) self ⌝ }
@@ -369,6 +326,21 @@ impl Auction {
             Phase::Falling => self.rounds_within(sum),
             Phase::Closed => self.rounds_within(sum),
         }
+    }
+
+    // a report is missing
+    fn misses(self) -> bool
+        requires { ⌜ self .bidders ≤ 64 ⌝ }
+        ensures { λ r. ⌜ r ≡ missing self ⌝ }
+    {
+        let mut k: usize = 0;
+        while k < self.bidders {
+            if !sets::has_bidder(self.reported, k + 1) {
+                return true;
+            }
+            k += 1;
+        }
+        false
     }
 
     // the rising set of the reports
@@ -390,6 +362,19 @@ impl Auction {
         round::falling(&sets, round::positive(&prices))
     }
 
+    // the phase is closed
+    fn is_closed(self) -> bool
+        ensures { λ r. ⌜ r ≡ isClosed (self .phase) ⌝ }
+    {
+        let phase = self.phase;
+        match phase {
+            Phase::Rising => false,
+            Phase::Falling => false,
+            Phase::Closed => true,
+        }
+    }
+
+    // not: if closed, a report is missing or a set is not empty
     fn close_fits(self) -> bool
         requires { ⌜ Tidy self ⌝ }
         ensures { λ r. ⌜ r ≡ closeFits (self .phase) self ⌝ }
@@ -434,6 +419,8 @@ impl Auction {
         self.close_fits()
     }
 
+    // ---- report and clear
+
     // the number that turns a clear down, or 0: 11, 12
     fn clear_number(self) -> u8
         ensures { λ r. ⌜ r ≡ clearNumber self ⌝ }
@@ -477,6 +464,30 @@ impl Auction {
         Reply { number, next: self }
     }
 
+    // the report takes its bidder's place, and the bidder has reported
+    fn with_report(self, bidder: usize, null: bool, set: u32) -> Auction
+        requires { ⌜ (1 ≤ bidder) × (bidder ≤ 64) ⌝ }
+        ensures { λ r. ⌜ r ≡ withReport self bidder (saying null set) ⌝ }
+    {
+        let k = bidder - 1;
+        let mut next = self;
+        next.sets[k] = set;
+        next.nulls = round::add_bidder(next.nulls, bidder, null);
+        next.reported = sets::with_bidder(next.reported, bidder);
+        next
+    }
+
+    // no reports
+    fn cleared(self) -> Auction
+        ensures { λ r. ⌜ r ≡ cleared self ⌝ }
+    {
+        let mut next = self;
+        next.sets = [0; 64];
+        next.nulls = 0;
+        next.reported = 0;
+        next
+    }
+
     // a bidder's report: 11, 12, 7, 13, 8
     pub fn report(self, bidder: usize, null: bool, set: u32) -> Reply
         ensures { λ r. ⌜ r ≡ report self bidder (saying null set) ⌝ }
@@ -504,6 +515,8 @@ impl Auction {
             next: self.cleared(),
         }
     }
+
+    // ---- end the round
 
     // of the items of the set one stands at 4,095
     fn at_top(self, set: u32) -> bool
@@ -637,6 +650,8 @@ impl Auction {
             Phase::Closed => self.stopped(12),
         }
     }
+
+    // ---- read the close
 
     // the names at the close, and zeros past the last bidder
     fn names(self) -> [u8; 64]

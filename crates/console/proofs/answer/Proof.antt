@@ -1,24 +1,10 @@
 -- `console::answer` meets its contract. Assumes nothing.
-use mathlib.Core.Path.{_≡_}
-use mathlib.Core.List.{List}
-use Prim.Native.Nat.{ℕ}
 use borrow.Author.Needs.{needs}
 use Rattle.live.specs.Calls.{endingOf}
 use Rattle.console.specs.Answers.{opens, replies, ends, reads}
 use Rattle.console.proofs.Answering.{no-room, answers, told-open, told-report, told-end, told-clear, told-read, told-none, open-starts, open-items, end-items}
 use Rattle.console.proofs.answer.Statement.{statement}
 use Rattle.console.proofs.answer.Tie as tie
-use Rattle.console.proofs.answer.Reads as reads
-use Rattle.console.proofs.answer.Lts as lts
-use Rattle.console.proofs.ended.Reads as ended-reads
-use Rattle.console.proofs.open_by.Reads as open-by-reads
-use Rattle.console.proofs.opened.Reads as opened-reads
-use Rattle.console.proofs.order_of.Reads as order-of-reads
-use Rattle.console.proofs.replied.Reads as replied-reads
-use Rattle.console.proofs.shown.Reads as shown-reads
-use Rattle.live.proofs.Auction.clear.Reads as clear-reads
-use Rattle.live.proofs.Auction.end.Reads as end-reads
-use Rattle.live.proofs.Auction.report.Reads as report-reads
 
 returns : tie.Need-returns
 returns c = no-room (c .before .before .before .args .held) (c .before .before .before .args .line .now) (c .before .before .before .args .out .now) (c .if1 .taken)

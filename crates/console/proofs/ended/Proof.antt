@@ -1,19 +1,13 @@
 -- `console::ended` meets its contract. Assumes nothing.
-use Prim.Native.Nat.{ℕ}
 use mathlib.Core.Path.{_≡_, ap, _∙_}
 use borrow.Author.Needs.{needs}
 use Rattle.rule.specs.Round.{raised, lowered, closed}
 use Rattle.live.specs.Calls.{gives, refused, moveOf, endingOf}
 use Rattle.live.specs.declared.Kind.{Kind}
-use Rattle.live.specs.declared.Kind.the-variants.{Raised, Lowered}
 use Rattle.live.specs.declared.Ended.the-variants.{Moved}
 use Rattle.console.proofs.Writing.{raised-put, lowered-put, closed-put, refused-put, by-ending}
 use Rattle.console.proofs.ended.Statement.{statement}
 use Rattle.console.proofs.ended.Tie as tie
-use Rattle.console.proofs.ended.Reads as reads
-use Rattle.console.proofs.ended.Lts as lts
-use Rattle.console.proofs.moved.Reads as moved-reads
-use Rattle.console.proofs.replied.Reads as replied-reads
 
 raises : (c : tie.After-enum-told) → endingOf (c .before .before .before .before .before .before .before .args .step .ended) ≡ gives (raised (c .before .before .before .how .given .0 .1 .0))
 unfolding endingOf moveOf

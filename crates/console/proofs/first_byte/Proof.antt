@@ -1,13 +1,10 @@
 -- `console::first_byte` meets its contract. Assumes nothing.
-use Prim.Native.Nat.{ℕ}
 use mathlib.Core.Path.{sym}
-use lib.ListN.{length, List·getD-eq-default}
+use lib.ListN.{List·getD-eq-default}
 use native.Mathlib.Omega.{arith}
 use borrow.Author.Needs.{needs}
 use Rattle.console.proofs.first_byte.Statement.{statement}
 use Rattle.console.proofs.first_byte.Tie as tie
-use Rattle.console.proofs.first_byte.Reads as reads
-use Rattle.console.proofs.first_byte.Lts as lts
 
 shared-slice-read-result : tie.Need-shared-slice-read-result
 shared-slice-read-result c = search needs

@@ -2,8 +2,6 @@
 use Rattle.console.proofs.Lines.{is-end, is-clear, is-read, is-none}
 use Rattle.console.proofs.letter.Statement.{statement}
 use Rattle.console.proofs.letter.Tie as tie
-use Rattle.console.proofs.letter.Reads as reads
-use Rattle.console.proofs.letter.Lts as lts
 
 returns : tie.Need-returns
 returns c = is-end (c .before .args .byte) (c .if1 .taken)

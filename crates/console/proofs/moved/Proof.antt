@@ -3,10 +3,6 @@ use borrow.Author.Needs.{needs}
 use Rattle.console.proofs.Writing.{move-put}
 use Rattle.console.proofs.moved.Statement.{statement}
 use Rattle.console.proofs.moved.Tie as tie
-use Rattle.console.proofs.moved.Reads as reads
-use Rattle.console.proofs.moved.Lts as lts
-use Rattle.console.proofs.put_prices.Reads as put-prices-reads
-use Rattle.console.proofs.put_round.Reads as put-round-reads
 
 put-round-requires : tie.Need-put-round-requires
 put-round-requires c κs = search needs

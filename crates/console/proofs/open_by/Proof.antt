@@ -4,19 +4,12 @@ use mathlib.Core.Path.{_≡_, sym, ap, _∙_}
 use mathlib.Core.List.{List}
 use lib.ListN.{length, take}
 use borrow.Author.Needs.{needs}
-use Rattle.sets.specs.Lists.{places}
 use Rattle.live.specs.Calls.{openAuction}
 use Rattle.console.specs.Orders.{startsOf}
 use Rattle.console.proofs.Prices.{all-starts}
 use Rattle.console.proofs.Enough.{first-33, part-length}
 use Rattle.console.proofs.open_by.Statement.{statement}
 use Rattle.console.proofs.open_by.Tie as tie
-use Rattle.console.proofs.open_by.Reads as reads
-use Rattle.console.proofs.open_by.Lts as lts
-use Rattle.console.proofs.least.Reads as least-reads
-use Rattle.console.proofs.rest.Reads as rest-reads
-use Rattle.console.proofs.starts.Reads as starts-reads
-use Rattle.live.proofs.open.Reads as open-reads
 
 starts-requires : tie.Need-starts-requires
 starts-requires c κs = search needs

@@ -1,6 +1,5 @@
 -- `console::opened` meets its contract. Assumes nothing.
-use Prim.Native.Nat.{ℕ, _≤_}
-use mathlib.Core.Path.{_≡_, sym, ap, _∙_}
+use mathlib.Core.Path.{_≡_, ap, _∙_}
 use native.Mathlib.Omega.{arith}
 use lib.ListN.{length}
 use lib.Seq.{length-sets}
@@ -9,11 +8,6 @@ use Rattle.console.specs.Answers.{numberText}
 use Rattle.console.proofs.Writing.{open-kept, open-put}
 use Rattle.console.proofs.opened.Statement.{statement}
 use Rattle.console.proofs.opened.Tie as tie
-use Rattle.console.proofs.opened.Reads as reads
-use Rattle.console.proofs.opened.Lts as lts
-use Rattle.console.proofs.put_prices.Reads as put-prices-reads
-use Rattle.console.proofs.put_text.Reads as put-text-reads
-use Rattle.console.proofs.replied.Reads as replied-reads
 
 replied-requires : tie.Need-replied-requires
 replied-requires c κs = search needs

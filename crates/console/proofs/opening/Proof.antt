@@ -1,5 +1,4 @@
 -- `console::opening` meets its contract. Assumes nothing.
-use Prim.Native.Nat.{ℕ}
 use mathlib.Core.Path.{_≡_, sym, _∙_}
 use mathlib.Core.Option.{some}
 use native.Mathlib.Omega.{arith}
@@ -9,10 +8,6 @@ use Rattle.lines.specs.Reading.{numberAt}
 use Rattle.console.proofs.Lines.{number-is, number-not, no-items, no-bidders, no-starts, an-opening}
 use Rattle.console.proofs.opening.Statement.{statement}
 use Rattle.console.proofs.opening.Tie as tie
-use Rattle.console.proofs.opening.Reads as reads
-use Rattle.console.proofs.opening.Lts as lts
-use Rattle.console.proofs.starts_there.Reads as starts-there-reads
-use Rattle.lines.proofs.number_at.Reads as number-at-reads
 
 first-is : (c : tie.After-known-told) → numberAt 2 (c .before .before .before .before .before .args .line .now) 1 ≡ some (c .before .items .given .0 .0)
 first-is c = number-is 2 1 (c .before .before .before .before .before .args .line .now) (c .before .before .before .number-at .result) (c .before .items .given .0 .0) (omega arith) (c .before .before .before .number-at .ensures) (c .before .items .given .1)

@@ -3,12 +3,6 @@ use borrow.Author.Needs.{needs}
 use Rattle.console.proofs.Lines.{opens-it, reports-it, not-one, one-letter}
 use Rattle.console.proofs.order_of.Statement.{statement}
 use Rattle.console.proofs.order_of.Tie as tie
-use Rattle.console.proofs.order_of.Reads as reads
-use Rattle.console.proofs.order_of.Lts as lts
-use Rattle.console.proofs.first_byte.Reads as first-byte-reads
-use Rattle.console.proofs.letter.Reads as letter-reads
-use Rattle.console.proofs.opening.Reads as opening-reads
-use Rattle.console.proofs.reporting.Reads as reporting-reads
 
 first-byte-requires : tie.Need-first-byte-requires
 first-byte-requires c κs = search needs

@@ -1,10 +1,9 @@
 -- `console::price` meets its contract. Assumes nothing.
-use Prim.Native.Nat.{ℕ, _+_, _*_, _-_, _/_, _≤_, _<_}
-use mathlib.Core.Path.{_≡_, refl, sym, ap, _∙_}
-use mathlib.Core.List.{List}
-use mathlib.Core.Option.{Option, none, some, Option·some-injective}
+use Prim.Native.Nat.{_+_, _*_, _<_}
+use mathlib.Core.Path.{_≡_, sym, _∙_}
+use mathlib.Core.Option.{some, Option·some-injective}
 use native.Mathlib.Omega.{arith}
-use lib.ListN.{length, getD}
+use lib.ListN.{getD}
 use borrow.Author.Needs.{needs}
 use Rattle.lines.specs.Reading.{numberAt}
 use Rattle.lines.proofs.Numbers.{number-read}
@@ -13,10 +12,6 @@ use Rattle.console.proofs.Lines.{number-is, number-not}
 use Rattle.console.proofs.Prices.{all-starts, past-starts, none-some}
 use Rattle.console.proofs.price.Statement.{statement}
 use Rattle.console.proofs.price.Tie as tie
-use Rattle.console.proofs.price.Reads as reads
-use Rattle.console.proofs.price.Lts as lts
-use Rattle.console.proofs.rest.Reads as rest-reads
-use Rattle.lines.proofs.number_at.Reads as number-at-reads
 
 read : (c : tie.After-known-told) → numberAt 4 (c .before .before .before .before .before .before .before .args .line .now) (5 + 4 * c .before .before .before .before .before .before .before .args .i) ≡ some (c .before .x .given .0 .0)
 read c = let a = c .before .before .before .before .before .before .before .args in number-is 4 (5 + 4 * a .i) (a .line .now) (c .before .before .before .number-at .result) (c .before .x .given .0 .0) (omega arith) (c .before .before .before .number-at .ensures) (c .before .x .given .1)

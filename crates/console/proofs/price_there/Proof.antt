@@ -1,6 +1,6 @@
 -- `console::price_there` meets its contract. Assumes nothing.
 use Prim.Native.Nat.{ℕ, _+_, _*_}
-use mathlib.Core.Path.{_≡_, sym, ap}
+use mathlib.Core.Path.{sym, ap}
 use mathlib.Core.Option.{Option}
 use native.Mathlib.Omega.{arith}
 use borrow.Author.Needs.{needs}
@@ -8,9 +8,6 @@ use Rattle.console.specs.Steps.{isRead}
 use Rattle.console.proofs.Lines.{number-is, number-not}
 use Rattle.console.proofs.price_there.Statement.{statement}
 use Rattle.console.proofs.price_there.Tie as tie
-use Rattle.console.proofs.price_there.Reads as reads
-use Rattle.console.proofs.price_there.Lts as lts
-use Rattle.lines.proofs.number_at.Reads as number-at-reads
 
 mul-number-at : tie.Need-mul-number-at
 mul-number-at c = search needs

@@ -3,9 +3,6 @@ use borrow.Author.Needs.{needs}
 use Rattle.console.proofs.Writing.{line-put}
 use Rattle.console.proofs.put_line.Statement.{statement}
 use Rattle.console.proofs.put_line.Tie as tie
-use Rattle.console.proofs.put_line.Reads as reads
-use Rattle.console.proofs.put_line.Lts as lts
-use Rattle.console.proofs.put_text.Reads as put-text-reads
 
 put-text-requires : tie.Need-put-text-requires
 put-text-requires c κs = search needs

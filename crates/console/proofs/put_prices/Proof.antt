@@ -3,9 +3,6 @@ use borrow.Author.Needs.{needs}
 use Rattle.console.proofs.Writing.{prices-put}
 use Rattle.console.proofs.put_prices.Statement.{statement}
 use Rattle.console.proofs.put_prices.Tie as tie
-use Rattle.console.proofs.put_prices.Reads as reads
-use Rattle.console.proofs.put_prices.Lts as lts
-use Rattle.lines.proofs.write_prices.Reads as write-prices-reads
 
 write-prices-requires : tie.Need-write-prices-requires
 write-prices-requires c κs = search needs

@@ -3,10 +3,6 @@ use borrow.Author.Needs.{needs}
 use Rattle.console.proofs.Writing.{round-put}
 use Rattle.console.proofs.put_round.Statement.{statement}
 use Rattle.console.proofs.put_round.Tie as tie
-use Rattle.console.proofs.put_round.Reads as reads
-use Rattle.console.proofs.put_round.Lts as lts
-use Rattle.console.proofs.put_text.Reads as put-text-reads
-use Rattle.lines.proofs.write_number.Reads as write-number-reads
 
 put-text-requires : tie.Need-put-text-requires
 put-text-requires c κs = search needs

@@ -3,8 +3,6 @@ use borrow.Author.Needs.{needs}
 use Rattle.console.proofs.Writing.{text-put}
 use Rattle.console.proofs.put_text.Statement.{statement}
 use Rattle.console.proofs.put_text.Tie as tie
-use Rattle.console.proofs.put_text.Reads as reads
-use Rattle.console.proofs.put_text.Lts as lts
 
 add-out : tie.Need-add-out
 add-out c = search needs

@@ -3,9 +3,6 @@ use borrow.Author.Needs.{needs}
 use Rattle.console.proofs.Writing.{reply-put}
 use Rattle.console.proofs.replied.Statement.{statement}
 use Rattle.console.proofs.replied.Tie as tie
-use Rattle.console.proofs.replied.Reads as reads
-use Rattle.console.proofs.replied.Lts as lts
-use Rattle.console.proofs.put_line.Reads as put-line-reads
 
 put-line-requires : tie.Need-put-line-requires
 put-line-requires c κs = search needs

@@ -1,5 +1,4 @@
 -- `console::reporting` meets its contract. Assumes nothing.
-use Prim.Native.Nat.{ℕ}
 use mathlib.Core.Path.{_≡_}
 use mathlib.Core.Option.{some}
 use native.Mathlib.Omega.{arith}
@@ -8,9 +7,6 @@ use Rattle.lines.specs.Reading.{numberAt}
 use Rattle.console.proofs.Lines.{number-is, number-not, not-long, no-bidder, no-null, no-set, other-null, a-report}
 use Rattle.console.proofs.reporting.Statement.{statement}
 use Rattle.console.proofs.reporting.Tie as tie
-use Rattle.console.proofs.reporting.Reads as reads
-use Rattle.console.proofs.reporting.Lts as lts
-use Rattle.lines.proofs.number_at.Reads as number-at-reads
 
 bidder-is : (c : tie.After-known-told) → numberAt 2 (c .before .before .before .before .before .before .args .line .now) 1 ≡ some (c .before .bidder .given .0 .0)
 bidder-is c = number-is 2 1 (c .before .before .before .before .before .before .args .line .now) (c .before .before .before .number-at .result) (c .before .bidder .given .0 .0) (omega arith) (c .before .before .before .number-at .ensures) (c .before .bidder .given .1)

@@ -1,6 +1,6 @@
 -- `console::shown` meets its contract. Assumes nothing.
-use Prim.Native.Nat.{ℕ, _+_, _*_, _-_, _≤_}
-use mathlib.Core.Path.{_≡_, refl}
+use Prim.Native.Nat.{ℕ, _-_, _≤_}
+use mathlib.Core.Path.{refl}
 use mathlib.Core.List.{List}
 use native.Mathlib.Omega.{arith}
 use lib.ListN.{length}
@@ -9,10 +9,6 @@ use borrow.Rule.Slice.PartMut.{putMid}
 use Rattle.console.proofs.Showing.{shown-number, shown-sheet, shown-small}
 use Rattle.console.proofs.shown.Statement.{statement}
 use Rattle.console.proofs.shown.Tie as tie
-use Rattle.console.proofs.shown.Reads as reads
-use Rattle.console.proofs.shown.Lts as lts
-use Rattle.console.proofs.put_line.Reads as put-line-reads
-use Rattle.live.proofs.Auction.read.Reads as read-reads
 
 small : (c : tie.Else1) → (c .before .before .before .before .before .before .before .before .before .before .args .held .items ≤ 32) × (c .before .before .before .before .before .before .before .before .before .before .args .held .bidders ≤ 64)
 small c = shown-small (c .before .before .before .before .before .before .before .before .before .before .args .held) (c .before .before .before .before .before .before .before .before .before .before .args .out .now) (c .before .before .before .put-line .last .0) (c .before .before .before .before .before .before .before .read .result) (c .before .before .before .before .before .before .before .before .before .before .pre) (c .before .before .before .before .before .before .before .read .ensures .0) (c .if1 .left)

@@ -10,9 +10,6 @@ use Rattle.console.specs.Orders.{startsAt, startsOf}
 use Rattle.console.specs.Steps.{isRead}
 use Rattle.console.proofs.starts.Statement.{statement}
 use Rattle.console.proofs.starts.Tie as tie
-use Rattle.console.proofs.starts.Reads as reads
-use Rattle.console.proofs.starts.Lts as lts
-use Rattle.console.proofs.price.Reads as price-reads
 
 abbrev Inv-loop : tie.InvT-loop
 Inv-loop line start₀ i₀ start i = Filled 33 (λ k. getD (startsOf line) k 0) i start × (isRead (startsAt line) ≡ true)

@@ -1,21 +1,17 @@
 -- `console::starts_there` meets its contract. Assumes nothing.
-use Prim.Native.Nat.{ℕ, _+_, _*_, _-_, _/_, _%_, _≤_, _<_}
+use Prim.Native.Nat.{ℕ, _+_, _*_, _-_, _%_, _≤_, _<_}
 use mathlib.Core.Path.{_≡_, sym, ap, _∙_}
-use mathlib.Core.Bool.{Bool, true, false}
+use mathlib.Core.Bool.{true}
 use native.Mathlib.Omega.{arith}
 use lib.ListN.{length}
 use borrow.Author.Needs.{needs}
-use borrow.Author.Count.{below-none, below-more}
+use borrow.Author.Count.{below-more}
 use borrow.Author.Tests.{not-true, not-false}
 use Rattle.lines.specs.Reading.{numberAt}
 use Rattle.console.specs.Steps.{isRead}
 use Rattle.console.proofs.Prices.{odd-starts, starts-gone, starts-read}
 use Rattle.console.proofs.starts_there.Statement.{statement}
 use Rattle.console.proofs.starts_there.Tie as tie
-use Rattle.console.proofs.starts_there.Reads as reads
-use Rattle.console.proofs.starts_there.Lts as lts
-use Rattle.console.proofs.price_there.Reads as price-there-reads
-use Rattle.console.proofs.rest.Reads as rest-reads
 
 abbrev Inv-loop : tie.InvT-loop
 Inv-loop line bytes count i₀ i = ((j : ℕ) → j < i → isRead (numberAt 4 line (5 + 4 * j)) ≡ true) × (i ≤ count)

@@ -1,7 +1,7 @@
 -- `live::holds_beyond` meets its contract. Assumes nothing.
 use mathlib.Core.Path.{_≡_, ap, sym, _∙_}
-use mathlib.Core.Bool.{Bool, true, false}
-use Prim.Native.Nat.{ℕ, suc, _+_, _-_, _≤_, _<_}
+use mathlib.Core.Bool.{false}
+use Prim.Native.Nat.{_-_, _≤_}
 use native.Mathlib.Omega.{arith}
 use native.Mathlib.Numerals.{add-one}
 use borrow.Author.Needs.{needs}
@@ -11,9 +11,6 @@ use Rattle.live.proofs.Loops.{any-more}
 use Rattle.live.proofs.Unused.{pastItem, beyond-until, beyond-here, beyond-next, beyond-all}
 use Rattle.live.proofs.holds_beyond.Statement.{statement}
 use Rattle.live.proofs.holds_beyond.Tie as tie
-use Rattle.live.proofs.holds_beyond.Reads as reads
-use Rattle.live.proofs.holds_beyond.Lts as lts
-use Rattle.sets.proofs.has_item.Reads as has-item-reads
 
 abbrev Inv-loop : tie.InvT-loop
 Inv-loop items set k₀ k = (anyBelow k (pastItem items set) ≡ false) × (items ≤ k)

@@ -2,8 +2,6 @@
 use borrow.Author.Tests.{not-true, not-false}
 use Rattle.live.proofs.is_top.Statement.{statement}
 use Rattle.live.proofs.is_top.Tie as tie
-use Rattle.live.proofs.is_top.Reads as reads
-use Rattle.live.proofs.is_top.Lts as lts
 
 returns : tie.Need-returns
 returns c = simp (not-true (c .before .args .on) (c .if1 .taken))

@@ -1,18 +1,13 @@
 -- `live::open` meets its contract. Assumes nothing.
-use mathlib.Core.Path.{_≡_, refl, ap, sym, _∙_}
-use mathlib.Core.Bool.{Bool, true, false, _&&_}
+use mathlib.Core.Path.{_≡_, sym, _∙_}
 use mathlib.Core.List.{List}
-use Prim.Native.Nat.{ℕ, zero, suc, _≤_, _<_}
+use Prim.Native.Nat.{ℕ, _≤_}
 use native.Mathlib.Omega.{arith}
 use lib.ListN.{length}
 use Rattle.live.proofs.Opening.{few-items, many-items, good-items, few-bidders, many-bidders, good-bidders, one, two, three, four, accepts-with}
 use borrow.Author.Needs.{needs}
 use Rattle.live.proofs.open.Statement.{statement}
 use Rattle.live.proofs.open.Tie as tie
-use Rattle.live.proofs.open.Reads as reads
-use Rattle.live.proofs.open.Lts as lts
-use Rattle.round.proofs.in_places.Reads as in-places-reads
-use Rattle.live.proofs.refused.Reads as refused-reads
 
 refused-requires : tie.Need-refused-requires
 refused-requires c κs = search needs

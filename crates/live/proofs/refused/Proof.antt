@@ -5,9 +5,6 @@ use Rattle.live.specs.declared.Auction.{Auction}
 use borrow.Author.Needs.{needs}
 use Rattle.live.proofs.refused.Statement.{statement}
 use Rattle.live.proofs.refused.Tie as tie
-use Rattle.live.proofs.refused.Reads as reads
-use Rattle.live.proofs.refused.Lts as lts
-use Rattle.live.proofs.zeros.Reads as zeros-reads
 
 zeros-requires : tie.Need-zeros-requires
 zeros-requires c κs = search needs

@@ -1,12 +1,9 @@
 -- `live::refuses` meets its contract. Assumes nothing.
-use mathlib.Core.Path.{_≡_, sym, _∙_}
+use mathlib.Core.Path.{sym, _∙_}
 use Rattle.live.proofs.Unused.{unfit-beyond, unfit-null, unfit-empty}
 use borrow.Author.Needs.{needs}
 use Rattle.live.proofs.refuses.Statement.{statement}
 use Rattle.live.proofs.refuses.Tie as tie
-use Rattle.live.proofs.refuses.Reads as reads
-use Rattle.live.proofs.refuses.Lts as lts
-use Rattle.live.proofs.holds_beyond.Reads as holds-beyond-reads
 
 holds-beyond-requires : tie.Need-holds-beyond-requires
 holds-beyond-requires c κs = search needs

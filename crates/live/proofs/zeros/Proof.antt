@@ -3,8 +3,6 @@ use mathlib.Core.Path.{refl}
 use Rattle.live.specs.Calls.{zeros}
 use Rattle.live.proofs.zeros.Statement.{statement}
 use Rattle.live.proofs.zeros.Tie as tie
-use Rattle.live.proofs.zeros.Reads as reads
-use Rattle.live.proofs.zeros.Lts as lts
 
 returns : tie.Need-returns
 unfolding zeros

@@ -4,8 +4,6 @@ use lib.Seq.{length-take-le}
 use borrow.Author.Needs.{needs}
 use Rattle.live_console.proofs.answered.Statement.{statement}
 use Rattle.live_console.proofs.answered.Tie as tie
-use Rattle.live_console.proofs.answered.Reads as reads
-use Rattle.live_console.proofs.answered.Lts as lts
 
 returns : tie.Need-returns
 returns c = (c .if1 .taken, sym (length-take-le (c .before .args .filled) (c .before .args .line .now) (c .if1 .taken)))

@@ -6,9 +6,6 @@ use lib.ListN.{length}
 use borrow.Author.Needs.{needs}
 use Rattle.live_console.proofs.enter_all.Statement.{statement}
 use Rattle.live_console.proofs.enter_all.Tie as tie
-use Rattle.live_console.proofs.enter_all.Reads as reads
-use Rattle.live_console.proofs.enter_all.Lts as lts
-use Rattle.live_console.proofs.enter.Reads as enter-reads
 
 abbrev Inv-loop : tie.InvT-loop
 Inv-loop line₀ bytes next₀ i₀ line next i = (length line ≡ length line₀) × (i ≤ length bytes)

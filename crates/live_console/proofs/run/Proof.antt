@@ -1,14 +1,9 @@
 -- `live_console::run` meets its contract. The measure is the number of turns that are left. Assumes nothing.
-use mathlib.Core.Path.{_≡_, refl, _∙_}
-use native.Mathlib.Omega.{arith}
+use mathlib.Core.Path.{_≡_, refl}
 use lib.ListN.{length}
 use borrow.Author.Needs.{needs}
 use Rattle.live_console.proofs.run.Statement.{statement}
 use Rattle.live_console.proofs.run.Tie as tie
-use Rattle.live_console.proofs.run.Reads as reads
-use Rattle.live_console.proofs.run.Lts as lts
-use Rattle.live_console.proofs.take_turn.Reads as take-turn-reads
-use Rattle.live_console.proofs.zeros.Reads as zeros-reads
 
 abbrev Inv-loop : tie.InvT-loop
 Inv-loop line₀ kept₀ turns₀ line kept turns = length line ≡ length line₀

@@ -1,8 +1,8 @@
 -- `live::Auction::at_top` meets its contract. Assumes nothing.
 use mathlib.Core.Path.{_≡_, sym, ap, _∙_}
 use mathlib.Core.List.{List}
-use mathlib.Core.Bool.{Bool, true, false, _&&_}
-use Prim.Native.Nat.{ℕ, suc, _+_, _-_, _≤_, _<_}
+use mathlib.Core.Bool.{Bool, false, _&&_}
+use Prim.Native.Nat.{ℕ, suc, _-_, _≤_}
 use native.Mathlib.Omega.{arith}
 use native.Mathlib.Numerals.{add-one}
 use lib.Dec.{eqb}
@@ -16,10 +16,6 @@ use Rattle.live.specs.Calls.{atTop}
 use Rattle.live.proofs.Loops.{any-none, any-more}
 use Rattle.live.proofs.Auction.at_top.Statement.{statement}
 use Rattle.live.proofs.Auction.at_top.Tie as tie
-use Rattle.live.proofs.Auction.at_top.Reads as reads
-use Rattle.live.proofs.Auction.at_top.Lts as lts
-use Rattle.live.proofs.is_top.Reads as is-top-reads
-use Rattle.sets.proofs.has_item.Reads as has-item-reads
 
 abbrev topAt : List ℕ → ℕ → ℕ → Bool
 topAt prices set k = has set (suc k) && eqb (amount prices (suc k)) 4095

@@ -1,18 +1,12 @@
 -- `live::Auction::clear` meets its contract. Assumes nothing.
 use Prim.Native.Nat.{ℕ}
-use mathlib.Core.Path.{_≡_, sym, ap, _∙_}
+use mathlib.Core.Path.{sym, ap, _∙_}
 use borrow.Author.Needs.{needs}
 use Rattle.live.specs.Calls.{cleared, clearNumber, clear}
 use Rattle.live.specs.declared.Auction.{Auction}
-use Rattle.live.specs.declared.Reply.{Reply}
 use Rattle.live.proofs.Refusing.{replied, reply-kept, reply-new}
 use Rattle.live.proofs.Auction.clear.Statement.{statement}
 use Rattle.live.proofs.Auction.clear.Tie as tie
-use Rattle.live.proofs.Auction.clear.Reads as reads
-use Rattle.live.proofs.Auction.clear.Lts as lts
-use Rattle.live.proofs.Auction.clear_number.Reads as clear-number-reads
-use Rattle.live.proofs.Auction.cleared.Reads as cleared-reads
-use Rattle.live.proofs.Auction.kept.Reads as kept-reads
 
 clear-number-requires : tie.Need-clear-number-requires
 clear-number-requires c κs = search needs

@@ -1,7 +1,7 @@
 -- `live::Auction::clear_number` meets its contract. Assumes nothing.
 use mathlib.Core.Path.{_≡_, sym, _∙_}
-use mathlib.Core.Bool.{Bool, true}
-use mathlib.Core.List.{List, []}
+use mathlib.Core.Bool.{true}
+use mathlib.Core.List.{[]}
 use borrow.Author.Needs.{needs}
 use borrow.Author.Tests.{not-true, not-false}
 use Rattle.rule.specs.Refusal.{first}
@@ -10,10 +10,6 @@ use Rattle.live.specs.Calls.{clearNumber}
 use Rattle.live.proofs.Refusing.{eleven, twelve, later}
 use Rattle.live.proofs.Auction.clear_number.Statement.{statement}
 use Rattle.live.proofs.Auction.clear_number.Tie as tie
-use Rattle.live.proofs.Auction.clear_number.Reads as reads
-use Rattle.live.proofs.Auction.clear_number.Lts as lts
-use Rattle.live.proofs.Auction.is_closed.Reads as is-closed-reads
-use Rattle.live.proofs.Auction.well_formed.Reads as well-formed-reads
 
 passes : (c : tie.Else1) → wellFormed (c .before .before .args .self) ≡ true
 passes c = sym (c .before .well-formed .ensures) ∙ not-false (c .before .well-formed .result) (c .if1 .left)

@@ -3,8 +3,6 @@ use mathlib.Core.Path.{refl}
 use Rattle.live.specs.Calls.{cleared}
 use Rattle.live.proofs.Auction.cleared.Statement.{statement}
 use Rattle.live.proofs.Auction.cleared.Tie as tie
-use Rattle.live.proofs.Auction.cleared.Reads as reads
-use Rattle.live.proofs.Auction.cleared.Lts as lts
 
 returns : tie.Need-returns
 unfolding cleared

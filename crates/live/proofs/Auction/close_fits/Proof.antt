@@ -1,22 +1,16 @@
 -- `live::Auction::close_fits` meets its contract. Assumes nothing.
-use mathlib.Core.Path.{_≡_, refl, sym, ap, _∙_}
-use mathlib.Core.Bool.{Bool, true, false, _&&_, not}
+use mathlib.Core.Path.{_≡_, sym, ap, _∙_}
+use mathlib.Core.Bool.{true, false}
 use Prim.Native.Nat.{ℕ}
 use lib.Dec.{eqb}
 use borrow.Author.Tests.{ne-eqb, eq-eqb, not-true, not-false}
-use Rattle.live.specs.Auction.{missing, risingSet, fallingSet}
+use Rattle.live.specs.Auction.{missing, risingSet}
 use Rattle.live.specs.Calls.{isClosed}
 use Rattle.live.proofs.Formed.{bidders-range}
 use Rattle.live.proofs.Phases.{not-closed, closed-by}
 use borrow.Author.Needs.{needs}
 use Rattle.live.proofs.Auction.close_fits.Statement.{statement}
 use Rattle.live.proofs.Auction.close_fits.Tie as tie
-use Rattle.live.proofs.Auction.close_fits.Reads as reads
-use Rattle.live.proofs.Auction.close_fits.Lts as lts
-use Rattle.live.proofs.Auction.falling_set.Reads as falling-set-reads
-use Rattle.live.proofs.Auction.is_closed.Reads as is-closed-reads
-use Rattle.live.proofs.Auction.misses.Reads as misses-reads
-use Rattle.live.proofs.Auction.rising_set.Reads as rising-set-reads
 
 closed : (c : tie.Else1) → isClosed (c .before .before .args .self .phase) ≡ true
 closed c = sym (c .before .is-closed .ensures) ∙ not-false (c .before .is-closed .result) (c .if1 .left)

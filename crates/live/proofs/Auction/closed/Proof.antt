@@ -3,8 +3,6 @@ use mathlib.Core.Path.{refl}
 use Rattle.live.specs.Calls.{settled}
 use Rattle.live.proofs.Auction.closed.Statement.{statement}
 use Rattle.live.proofs.Auction.closed.Tie as tie
-use Rattle.live.proofs.Auction.closed.Reads as reads
-use Rattle.live.proofs.Auction.closed.Lts as lts
 
 returns : tie.Need-returns
 unfolding settled

@@ -11,8 +11,6 @@ use Rattle.live.specs.Auction.{countsFit}
 use Rattle.live.proofs.Opening.{few-items, many-items, good-items, few-bidders}
 use Rattle.live.proofs.Auction.counts_fit.Statement.{statement}
 use Rattle.live.proofs.Auction.counts_fit.Tie as tie
-use Rattle.live.proofs.Auction.counts_fit.Reads as reads
-use Rattle.live.proofs.Auction.counts_fit.Lts as lts
 
 leb-not : (a b : ℕ) → leb a b ≡ not (ltb b a)
 leb-not a b = go (decLe a b)

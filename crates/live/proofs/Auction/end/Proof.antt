@@ -1,9 +1,8 @@
 -- `live::Auction::end` meets its contract. Assumes nothing.
-use mathlib.Core.Path.{_≡_, refl, sym, ap, _∙_}
-use mathlib.Core.Bool.{Bool, true, false, true≢false}
+use mathlib.Core.Path.{refl, sym, ap, _∙_}
+use mathlib.Core.Bool.{true≢false}
 use borrow.Author.Needs.{needs}
 use borrow.Author.Tests.{eqb-false}
-use Rattle.live.specs.Auction.{missing}
 use Rattle.live.specs.Calls.{isClosed, endingOf}
 use Rattle.live.specs.Tidy.{Ready}
 use Rattle.live.specs.declared.Ended.the-variants.{Refused}
@@ -12,14 +11,6 @@ use Rattle.live.proofs.Refusing.{Stands, stands}
 use Rattle.live.proofs.Ending.{early, fourteen, handed, ends-refused}
 use Rattle.live.proofs.Auction.end.Statement.{statement}
 use Rattle.live.proofs.Auction.end.Tie as tie
-use Rattle.live.proofs.Auction.end.Reads as reads
-use Rattle.live.proofs.Auction.end.Lts as lts
-use Rattle.live.proofs.Auction.clear_number.Reads as clear-number-reads
-use Rattle.live.proofs.Auction.ended_falling.Reads as ended-falling-reads
-use Rattle.live.proofs.Auction.ended_rising.Reads as ended-rising-reads
-use Rattle.live.proofs.Auction.misses.Reads as misses-reads
-use Rattle.live.proofs.Auction.rising_set.Reads as rising-set-reads
-use Rattle.live.proofs.Auction.stopped.Reads as stopped-reads
 
 still : (c : tie.Else1) → Stands (c .before .before .args .self)
 still c = stands (c .before .before .args .self) (c .before .clear-number .result) (c .before .clear-number .ensures) (c .if1 .left)

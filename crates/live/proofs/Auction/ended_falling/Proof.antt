@@ -1,5 +1,5 @@
 -- `live::Auction::ended_falling` meets its contract. Assumes nothing.
-use mathlib.Core.Path.{_≡_, refl, sym, _∙_}
+use mathlib.Core.Path.{refl, sym, _∙_}
 use borrow.Author.Needs.{needs}
 use borrow.Author.Tests.{eqb-false}
 use Rattle.live.specs.Calls.{endingOf}
@@ -7,10 +7,6 @@ use Rattle.live.specs.declared.Ended.the-variants.{Refused}
 use Rattle.live.proofs.Ending.{sixteen, handed, ends-refused}
 use Rattle.live.proofs.Auction.ended_falling.Statement.{statement}
 use Rattle.live.proofs.Auction.ended_falling.Tie as tie
-use Rattle.live.proofs.Auction.ended_falling.Reads as reads
-use Rattle.live.proofs.Auction.ended_falling.Lts as lts
-use Rattle.live.proofs.Auction.ended_low.Reads as ended-low-reads
-use Rattle.live.proofs.Auction.stopped.Reads as stopped-reads
 
 stopped-requires : tie.Need-stopped-requires
 stopped-requires c κs = search needs

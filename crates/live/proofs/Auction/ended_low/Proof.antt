@@ -1,5 +1,4 @@
 -- `live::Auction::ended_low` meets its contract. Assumes nothing.
-use mathlib.Core.Path.{_≡_}
 use borrow.Author.Needs.{needs}
 use Rattle.rule.specs.Round.{lowered, closed}
 use Rattle.live.specs.Calls.{settled, endingOf, moveOf}
@@ -11,11 +10,6 @@ use Rattle.live.proofs.Bounds.{lowered-room}
 use Rattle.live.proofs.Ending.{calm, round-lowered, round-closed, handed, ends-with}
 use Rattle.live.proofs.Auction.ended_low.Statement.{statement}
 use Rattle.live.proofs.Auction.ended_low.Tie as tie
-use Rattle.live.proofs.Auction.ended_low.Reads as reads
-use Rattle.live.proofs.Auction.ended_low.Lts as lts
-use Rattle.live.proofs.Auction.closed.Reads as closed-reads
-use Rattle.live.proofs.Auction.falling_set.Reads as falling-set-reads
-use Rattle.live.proofs.Auction.lowered_by.Reads as lowered-by-reads
 
 falling-set-requires : tie.Need-falling-set-requires
 falling-set-requires c κs = tidy (c .args .self) (c .pre .ready .formed)

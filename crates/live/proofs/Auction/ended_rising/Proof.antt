@@ -1,7 +1,6 @@
 -- `live::Auction::ended_rising` meets its contract. Assumes nothing.
 use mathlib.Core.Path.{_≡_, refl, sym, ap, _∙_}
-use mathlib.Core.Bool.{Bool, true, false}
-use Prim.Native.Nat.{ℕ}
+use mathlib.Core.Bool.{true, false}
 use borrow.Author.Needs.{needs}
 use borrow.Author.Tests.{eqb-false}
 use Rattle.rule.specs.Round.{raised}
@@ -14,12 +13,6 @@ use Rattle.live.proofs.Bounds.{raised-room}
 use Rattle.live.proofs.Ending.{seventeen, raises, round-raised, handed, ends-with, ends-refused}
 use Rattle.live.proofs.Auction.ended_rising.Statement.{statement}
 use Rattle.live.proofs.Auction.ended_rising.Tie as tie
-use Rattle.live.proofs.Auction.ended_rising.Reads as reads
-use Rattle.live.proofs.Auction.ended_rising.Lts as lts
-use Rattle.live.proofs.Auction.at_top.Reads as at-top-reads
-use Rattle.live.proofs.Auction.ended_low.Reads as ended-low-reads
-use Rattle.live.proofs.Auction.raised_by.Reads as raised-by-reads
-use Rattle.live.proofs.Auction.stopped.Reads as stopped-reads
 
 ended-low-requires : tie.Need-ended-low-requires
 ended-low-requires c κs = record { ready = c .before .pre .0; empty = sym (c .before .pre .2) ∙ c .if1 .taken }

@@ -8,10 +8,6 @@ use borrow.Author.Needs.{needs}
 use Rattle.live.proofs.Sets.{falling-here}
 use Rattle.live.proofs.Auction.falling_set.Statement.{statement}
 use Rattle.live.proofs.Auction.falling_set.Tie as tie
-use Rattle.live.proofs.Auction.falling_set.Reads as reads
-use Rattle.live.proofs.Auction.falling_set.Lts as lts
-use Rattle.round.proofs.falling.Reads as falling-reads
-use Rattle.round.proofs.positive.Reads as positive-reads
 
 positive-requires : tie.Need-positive-requires
 positive-requires c κs = search needs

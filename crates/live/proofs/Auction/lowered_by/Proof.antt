@@ -1,7 +1,7 @@
 -- `live::Auction::lowered_by` meets its contract. Assumes nothing.
 use Prim.Native.Nat.{ℕ, _+_}
 use mathlib.Core.List.{List}
-use mathlib.Core.Path.{_≡_, ap, _∙_}
+use mathlib.Core.Path.{ap, _∙_}
 use borrow.Author.Needs.{needs}
 use Rattle.live.specs.Calls.{cleared, settled}
 use Rattle.live.specs.declared.Auction.{Auction}
@@ -11,10 +11,6 @@ use Rattle.live.specs.declared.Ended.the-variants.{Moved}
 use Rattle.live.specs.declared.Phase.the-variants.{Falling}
 use Rattle.live.proofs.Auction.lowered_by.Statement.{statement}
 use Rattle.live.proofs.Auction.lowered_by.Tie as tie
-use Rattle.live.proofs.Auction.lowered_by.Reads as reads
-use Rattle.live.proofs.Auction.lowered_by.Lts as lts
-use Rattle.live.proofs.Auction.cleared.Reads as cleared-reads
-use Rattle.round.proofs.lowered.Reads as lowered-reads
 
 -- the answer of the move: the record without reports, at the next prices
 abbrev moved : Auction → ℕ → Auction → List ℕ → Step

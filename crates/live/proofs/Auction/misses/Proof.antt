@@ -1,7 +1,7 @@
 -- `live::Auction::misses` meets its contract. Assumes nothing.
 use mathlib.Core.Path.{_≡_, ap, sym, _∙_}
-use mathlib.Core.Bool.{Bool, true, false}
-use Prim.Native.Nat.{ℕ, suc, _+_, _-_, _≤_, _<_}
+use mathlib.Core.Bool.{false}
+use Prim.Native.Nat.{_-_, _≤_}
 use native.Mathlib.Omega.{arith}
 use native.Mathlib.Numerals.{add-one}
 use borrow.Author.Needs.{needs}
@@ -12,9 +12,6 @@ use Rattle.live.proofs.Loops.{any-none, any-more}
 use Rattle.live.proofs.Unused.{missingAt, missing-here, missing-next, missing-none}
 use Rattle.live.proofs.Auction.misses.Statement.{statement}
 use Rattle.live.proofs.Auction.misses.Tie as tie
-use Rattle.live.proofs.Auction.misses.Reads as reads
-use Rattle.live.proofs.Auction.misses.Lts as lts
-use Rattle.sets.proofs.has_bidder.Reads as has-bidder-reads
 
 abbrev Inv-loop : tie.InvT-loop
 Inv-loop self k₀ k = (anyBelow k (missingAt self) ≡ false) × (k ≤ self .bidders) × (self .bidders ≤ 64)

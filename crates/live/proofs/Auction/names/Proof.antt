@@ -1,5 +1,5 @@
 -- `live::Auction::names` meets its contract. Assumes nothing.
-use Prim.Native.Nat.{ℕ, _≤_}
+use Prim.Native.Nat.{ℕ}
 use mathlib.Core.Path.{_≡_, _∙_}
 use native.Mathlib.Omega.{arith}
 use lib.ListN.{length, getD}
@@ -10,10 +10,6 @@ use Rattle.live.proofs.Formed.{bidders-range}
 use Rattle.live.proofs.Reading.{names-here}
 use Rattle.live.proofs.Auction.names.Statement.{statement}
 use Rattle.live.proofs.Auction.names.Tie as tie
-use Rattle.live.proofs.Auction.names.Reads as reads
-use Rattle.live.proofs.Auction.names.Lts as lts
-use Rattle.assignment.proofs.first.Reads as first-reads
-use Rattle.round.proofs.positive.Reads as positive-reads
 
 positive-requires : tie.Need-positive-requires
 positive-requires c κs = search needs

@@ -1,7 +1,7 @@
 -- `live::Auction::place_fits` meets its contract. Assumes nothing.
 use mathlib.Core.Path.{_≡_, sym, ap, _∙_}
 use mathlib.Core.Bool.{Bool, true, false, _&&_, not}
-use Prim.Native.Nat.{ℕ, suc}
+use Prim.Native.Nat.{suc}
 use native.Mathlib.Numerals.{add-one}
 use lib.Dec.{eqb}
 use Rattle.sets.specs.Bit.{has}
@@ -10,10 +10,6 @@ use Rattle.live.proofs.Unused.{fits-reported, fits-other}
 use borrow.Author.Needs.{needs}
 use Rattle.live.proofs.Auction.place_fits.Statement.{statement}
 use Rattle.live.proofs.Auction.place_fits.Tie as tie
-use Rattle.live.proofs.Auction.place_fits.Reads as reads
-use Rattle.live.proofs.Auction.place_fits.Lts as lts
-use Rattle.live.proofs.refuses.Reads as refuses-reads
-use Rattle.sets.proofs.has_bidder.Reads as has-bidder-reads
 
 mul-set : tie.Need-mul-set
 mul-set c = search needs

@@ -1,8 +1,7 @@
 -- `live::Auction::price_sum` meets its contract. Assumes nothing.
-use mathlib.Core.Path.{_≡_, refl, ap, sym, _∙_}
-use mathlib.Core.Bool.{Bool, true, false}
+use mathlib.Core.Path.{_≡_, refl, ap, _∙_}
 use mathlib.Core.List.{List}
-use Prim.Native.Nat.{ℕ, suc, _+_, _*_, _-_, _≤_, _<_}
+use Prim.Native.Nat.{ℕ, suc, _+_, _*_, _-_, _≤_}
 use native.Mathlib.Omega.{arith}
 use native.Mathlib.Numerals.{add-one}
 use lib.ListN.{getD}
@@ -11,9 +10,6 @@ use Rattle.sets.specs.Sum.{sum}
 use Rattle.rule.specs.Sheet.{amount, priceSum}
 use Rattle.live.proofs.Auction.price_sum.Statement.{statement}
 use Rattle.live.proofs.Auction.price_sum.Tie as tie
-use Rattle.live.proofs.Auction.price_sum.Reads as reads
-use Rattle.live.proofs.Auction.price_sum.Lts as lts
-use Rattle.live.proofs.wide.Reads as wide-reads
 
 abbrev sumOf : ℕ → List ℕ → ℕ
 sumOf k p = sum k (λ j. amount p (suc j))

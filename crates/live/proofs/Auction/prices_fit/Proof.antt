@@ -5,8 +5,6 @@ use Rattle.live.specs.Auction.{pricesFit}
 use borrow.Author.Needs.{needs}
 use Rattle.live.proofs.Auction.prices_fit.Statement.{statement}
 use Rattle.live.proofs.Auction.prices_fit.Tie as tie
-use Rattle.live.proofs.Auction.prices_fit.Reads as reads
-use Rattle.live.proofs.Auction.prices_fit.Lts as lts
 
 slice-aggregate-any-over : tie.Need-slice-aggregate-any-over
 slice-aggregate-any-over c = search needs

@@ -1,7 +1,7 @@
 -- `live::Auction::raised_by` meets its contract. Assumes nothing.
 use Prim.Native.Nat.{ℕ, _+_}
 use mathlib.Core.List.{List}
-use mathlib.Core.Path.{_≡_, ap, _∙_}
+use mathlib.Core.Path.{ap, _∙_}
 use borrow.Author.Needs.{needs}
 use Rattle.live.specs.Calls.{cleared, settled}
 use Rattle.live.specs.declared.Auction.{Auction}
@@ -12,10 +12,6 @@ use Rattle.live.specs.declared.Phase.the-variants.{Rising}
 use Rattle.live.proofs.Sets.{raised-here}
 use Rattle.live.proofs.Auction.raised_by.Statement.{statement}
 use Rattle.live.proofs.Auction.raised_by.Tie as tie
-use Rattle.live.proofs.Auction.raised_by.Reads as reads
-use Rattle.live.proofs.Auction.raised_by.Lts as lts
-use Rattle.live.proofs.Auction.cleared.Reads as cleared-reads
-use Rattle.round.proofs.raised.Reads as raised-reads
 
 -- the answer of the move: the record without reports, at the next prices
 abbrev moved : Auction → ℕ → Auction → List ℕ → Step

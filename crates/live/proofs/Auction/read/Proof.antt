@@ -1,7 +1,7 @@
 -- `live::Auction::read` meets its contract. Assumes nothing.
 use Prim.Native.Nat.{ℕ}
 use mathlib.Core.Path.{_≡_, sym, _∙_}
-use mathlib.Core.Bool.{Bool, true, false}
+use mathlib.Core.Bool.{true}
 use mathlib.Core.List.{List}
 use borrow.Author.Needs.{needs}
 use borrow.Author.Tests.{not-true, not-false}
@@ -12,11 +12,6 @@ use Rattle.live.proofs.Formed.{tidy}
 use Rattle.live.proofs.Reading.{read-11, read-15, read-3, read-on}
 use Rattle.live.proofs.Auction.read.Statement.{statement}
 use Rattle.live.proofs.Auction.read.Tie as tie
-use Rattle.live.proofs.Auction.read.Reads as reads
-use Rattle.live.proofs.Auction.read.Lts as lts
-use Rattle.live.proofs.Auction.is_closed.Reads as is-closed-reads
-use Rattle.live.proofs.Auction.well_formed.Reads as well-formed-reads
-use Rattle.live.proofs.Auction.written.Reads as written-reads
 
 passes : (c : tie.Else1) → wellFormed (c .before .before .before .args .self) ≡ true
 passes c = sym (c .before .well-formed .ensures) ∙ not-false (c .before .well-formed .result) (c .if1 .left)

@@ -1,20 +1,14 @@
 -- `live::Auction::report` meets its contract. Assumes nothing.
 use Prim.Native.Nat.{ℕ}
-use mathlib.Core.Path.{_≡_, sym, ap, _∙_}
+use mathlib.Core.Path.{sym, ap, _∙_}
 use native.Mathlib.Omega.{arith}
 use borrow.Author.Needs.{needs}
 use Rattle.live.specs.Calls.{saying, withReport, reportNumber, report}
 use Rattle.live.specs.declared.Auction.{Auction}
-use Rattle.live.specs.declared.Reply.{Reply}
 use Rattle.live.proofs.Formed.{formed}
 use Rattle.live.proofs.Refusing.{of-bidder, report-stands, replied, reply-kept, reply-new}
 use Rattle.live.proofs.Auction.report.Statement.{statement}
 use Rattle.live.proofs.Auction.report.Tie as tie
-use Rattle.live.proofs.Auction.report.Reads as reads
-use Rattle.live.proofs.Auction.report.Lts as lts
-use Rattle.live.proofs.Auction.kept.Reads as kept-reads
-use Rattle.live.proofs.Auction.report_number.Reads as report-number-reads
-use Rattle.live.proofs.Auction.with_report.Reads as with-report-reads
 
 report-number-requires : tie.Need-report-number-requires
 report-number-requires c κs = search needs

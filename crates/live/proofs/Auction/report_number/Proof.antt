@@ -1,8 +1,8 @@
 -- `live::Auction::report_number` meets its contract. Assumes nothing.
-use Prim.Native.Nat.{ℕ, _≤_}
+use Prim.Native.Nat.{_≤_}
 use mathlib.Core.Path.{_≡_, sym, _∙_}
-use mathlib.Core.Bool.{Bool, true, false}
-use mathlib.Core.List.{List, [], _∷_}
+use mathlib.Core.Bool.{false}
+use mathlib.Core.List.{[], _∷_}
 use native.Mathlib.Omega.{arith}
 use borrow.Author.Needs.{needs}
 use Rattle.rule.specs.Refusal.{on, badBidder}
@@ -11,11 +11,6 @@ use Rattle.live.specs.Calls.{saying, reportNumber}
 use Rattle.live.proofs.Refusing.{Stands, stops, stands, seven-low, seven-high, thirteen, eight, accepted}
 use Rattle.live.proofs.Auction.report_number.Statement.{statement}
 use Rattle.live.proofs.Auction.report_number.Tie as tie
-use Rattle.live.proofs.Auction.report_number.Reads as reads
-use Rattle.live.proofs.Auction.report_number.Lts as lts
-use Rattle.live.proofs.Auction.clear_number.Reads as clear-number-reads
-use Rattle.live.proofs.refuses.Reads as refuses-reads
-use Rattle.sets.proofs.has_bidder.Reads as has-bidder-reads
 
 still : (c : tie.Else1) → Stands (c .before .before .args .self)
 still c = stands (c .before .before .args .self) (c .before .clear-number .result) (c .before .clear-number .ensures) (c .if1 .left)

@@ -1,7 +1,7 @@
 -- `live::Auction::reports_fit` meets its contract. Assumes nothing.
 use mathlib.Core.Path.{_≡_, sym, _∙_}
-use mathlib.Core.Bool.{Bool, true, false, _&&_}
-use Prim.Native.Nat.{ℕ, suc, _+_, _-_, _≤_, _<_}
+use mathlib.Core.Bool.{true, _&&_}
+use Prim.Native.Nat.{_-_, _≤_}
 use native.Mathlib.Omega.{arith}
 use borrow.Author.Needs.{needs}
 use borrow.Author.Tests.{not-true, not-false}
@@ -10,9 +10,6 @@ use Rattle.live.proofs.Loops.{all-none, all-more}
 use Rattle.live.proofs.Unused.{fitAt, emptyAt, reports-all, reports-fail}
 use Rattle.live.proofs.Auction.reports_fit.Statement.{statement}
 use Rattle.live.proofs.Auction.reports_fit.Tie as tie
-use Rattle.live.proofs.Auction.reports_fit.Reads as reads
-use Rattle.live.proofs.Auction.reports_fit.Lts as lts
-use Rattle.live.proofs.Auction.place_fits.Reads as place-fits-reads
 
 abbrev Inv-loop : tie.InvT-loop
 Inv-loop self k₀ k = (allBelow k (λ j. fitAt self j && emptyAt self j) ≡ true) × (k ≤ self .bidders) × (self .bidders ≤ 64)

@@ -8,9 +8,6 @@ use borrow.Author.Needs.{needs}
 use Rattle.live.proofs.Sets.{rising-here}
 use Rattle.live.proofs.Auction.rising_set.Statement.{statement}
 use Rattle.live.proofs.Auction.rising_set.Tie as tie
-use Rattle.live.proofs.Auction.rising_set.Reads as reads
-use Rattle.live.proofs.Auction.rising_set.Lts as lts
-use Rattle.round.proofs.rising.Reads as rising-reads
 
 rising-requires : tie.Need-rising-requires
 rising-requires c κs = search needs

@@ -4,10 +4,6 @@ use borrow.Author.Needs.{needs}
 use Rattle.live.proofs.Phases.{rises-lowered, rises-test, falls-test, closed-test}
 use Rattle.live.proofs.Auction.rounds_fit.Statement.{statement}
 use Rattle.live.proofs.Auction.rounds_fit.Tie as tie
-use Rattle.live.proofs.Auction.rounds_fit.Reads as reads
-use Rattle.live.proofs.Auction.rounds_fit.Lts as lts
-use Rattle.live.proofs.Auction.price_sum.Reads as price-sum-reads
-use Rattle.live.proofs.Auction.rounds_within.Reads as rounds-within-reads
 
 price-sum-requires : tie.Need-price-sum-requires
 price-sum-requires c κs = search needs

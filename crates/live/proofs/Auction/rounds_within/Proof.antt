@@ -3,8 +3,6 @@ use borrow.Author.Needs.{needs}
 use Rattle.live.proofs.Phases.{raised-over, lowered-test}
 use Rattle.live.proofs.Auction.rounds_within.Statement.{statement}
 use Rattle.live.proofs.Auction.rounds_within.Tie as tie
-use Rattle.live.proofs.Auction.rounds_within.Reads as reads
-use Rattle.live.proofs.Auction.rounds_within.Lts as lts
 
 mul-most : tie.Need-mul-most
 mul-most c = search needs

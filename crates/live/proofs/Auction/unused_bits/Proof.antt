@@ -1,7 +1,7 @@
 -- `live::Auction::unused_bits` meets its contract. Assumes nothing.
 use mathlib.Core.Path.{_≡_, sym, _∙_}
-use mathlib.Core.Bool.{Bool, true, false}
-use Prim.Native.Nat.{ℕ, suc, _+_, _-_, _≤_, _<_}
+use mathlib.Core.Bool.{true}
+use Prim.Native.Nat.{_-_, _≤_}
 use native.Mathlib.Omega.{arith}
 use borrow.Author.Needs.{needs}
 use Rattle.sets.specs.Count.{allBelow}
@@ -9,9 +9,6 @@ use Rattle.live.proofs.Loops.{all-none, all-more}
 use Rattle.live.proofs.Unused.{bitsIn, bits-fail, bits-here, bits-all}
 use Rattle.live.proofs.Auction.unused_bits.Statement.{statement}
 use Rattle.live.proofs.Auction.unused_bits.Tie as tie
-use Rattle.live.proofs.Auction.unused_bits.Reads as reads
-use Rattle.live.proofs.Auction.unused_bits.Lts as lts
-use Rattle.live.proofs.holds_beyond.Reads as holds-beyond-reads
 
 abbrev Inv-loop : tie.InvT-loop
 Inv-loop self k₀ k = (allBelow k (bitsIn self) ≡ true) × (k ≤ 64)

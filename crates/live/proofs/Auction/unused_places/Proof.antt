@@ -1,7 +1,7 @@
 -- `live::Auction::unused_places` meets its contract. Assumes nothing.
 use mathlib.Core.Path.{_≡_, ap, sym, _∙_}
-use mathlib.Core.Bool.{Bool, true, false}
-use Prim.Native.Nat.{ℕ, suc, _+_, _-_, _≤_, _<_}
+use mathlib.Core.Bool.{true}
+use Prim.Native.Nat.{_-_, _≤_}
 use native.Mathlib.Omega.{arith}
 use native.Mathlib.Numerals.{add-one}
 use lib.ListN.{getD}
@@ -12,9 +12,6 @@ use Rattle.live.proofs.Loops.{all-more}
 use Rattle.live.proofs.Unused.{pastPlace, place-until, place-null, place-set, place-reported, place-here, place-all}
 use Rattle.live.proofs.Auction.unused_places.Statement.{statement}
 use Rattle.live.proofs.Auction.unused_places.Tie as tie
-use Rattle.live.proofs.Auction.unused_places.Reads as reads
-use Rattle.live.proofs.Auction.unused_places.Lts as lts
-use Rattle.sets.proofs.has_bidder.Reads as has-bidder-reads
 
 abbrev Inv-loop : tie.InvT-loop
 Inv-loop self k₀ k = (allBelow k (pastPlace self) ≡ true) × (self .bidders ≤ k)

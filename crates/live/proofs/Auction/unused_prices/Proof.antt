@@ -1,9 +1,8 @@
 -- `live::Auction::unused_prices` meets its contract. Assumes nothing.
-use mathlib.Core.Path.{_≡_, refl, ap, sym, _∙_}
-use mathlib.Core.Bool.{Bool, true, false}
-use Prim.Native.Nat.{ℕ, zero, suc, _+_, _-_, _≤_, _<_}
+use mathlib.Core.Path.{_≡_, sym}
+use mathlib.Core.Bool.{true}
+use Prim.Native.Nat.{_-_, _≤_}
 use native.Mathlib.Omega.{arith}
-use lib.Dec.{leb, eqb}
 use lib.ListN.{getD}
 use borrow.Author.Needs.{needs}
 use Rattle.sets.specs.Count.{allBelow}
@@ -13,8 +12,6 @@ use Rattle.live.proofs.Loops.{all-more}
 use Rattle.live.proofs.Unused.{zeroFrom, zero-until, zero-fails, zero-here, zero-all}
 use Rattle.live.proofs.Auction.unused_prices.Statement.{statement}
 use Rattle.live.proofs.Auction.unused_prices.Tie as tie
-use Rattle.live.proofs.Auction.unused_prices.Reads as reads
-use Rattle.live.proofs.Auction.unused_prices.Lts as lts
 
 abbrev Inv-loop : tie.InvT-loop
 Inv-loop self i₀ i = (allBelow i (zeroFrom self) ≡ true) × (self .items ≤ i)

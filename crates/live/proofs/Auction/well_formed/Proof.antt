@@ -1,22 +1,12 @@
 -- `live::Auction::well_formed` meets its contract. Assumes nothing.
-use mathlib.Core.Path.{_≡_, refl, sym, _∙_}
-use mathlib.Core.Bool.{Bool, true, false, _&&_}
+use mathlib.Core.Path.{_≡_, sym, _∙_}
+use mathlib.Core.Bool.{true, false, _&&_}
 use borrow.Author.Needs.{needs}
 use borrow.Author.Tests.{not-true, not-false}
 use Rattle.live.specs.Auction.{countsFit, pricesFit, unusedPrices, unusedPlaces, unusedBits, reportedFit, othersEmpty, roundsFit, wellFormed}
 use Rattle.live.proofs.Formed.{items-range, bidders-range}
 use Rattle.live.proofs.Auction.well_formed.Statement.{statement}
 use Rattle.live.proofs.Auction.well_formed.Tie as tie
-use Rattle.live.proofs.Auction.well_formed.Reads as reads
-use Rattle.live.proofs.Auction.well_formed.Lts as lts
-use Rattle.live.proofs.Auction.close_fits.Reads as close-fits-reads
-use Rattle.live.proofs.Auction.counts_fit.Reads as counts-fit-reads
-use Rattle.live.proofs.Auction.prices_fit.Reads as prices-fit-reads
-use Rattle.live.proofs.Auction.reports_fit.Reads as reports-fit-reads
-use Rattle.live.proofs.Auction.rounds_fit.Reads as rounds-fit-reads
-use Rattle.live.proofs.Auction.unused_bits.Reads as unused-bits-reads
-use Rattle.live.proofs.Auction.unused_places.Reads as unused-places-reads
-use Rattle.live.proofs.Auction.unused_prices.Reads as unused-prices-reads
 
 passes-1 : (c : tie.Else1) → countsFit (c .before .before .args .self) ≡ true
 passes-1 c = sym (c .before .counts-fit .ensures) ∙ not-false (c .before .counts-fit .result) (c .if1 .left)

@@ -1,20 +1,12 @@
 -- `live::Auction::with_report` meets its contract. Assumes nothing.
-use mathlib.Core.Path.{_≡_, refl, ap, sym, _∙_}
-use mathlib.Core.Bool.{Bool, true, false, _&&_, _||_}
-use Prim.Native.Nat.{ℕ, suc, _-_, _≤_}
-use native.Mathlib.Omega.{arith}
-use lib.Dec.{eqb}
+use mathlib.Core.Path.{refl}
+use Prim.Native.Nat.{_-_}
 use lib.ListN.{set}
-use Rattle.sets.specs.Bit.{has, setOf}
 use Rattle.live.specs.Calls.{withReport, saying}
 use Rattle.live.proofs.Parts.{by-parts}
 use borrow.Author.Needs.{needs}
 use Rattle.live.proofs.Auction.with_report.Statement.{statement}
 use Rattle.live.proofs.Auction.with_report.Tie as tie
-use Rattle.live.proofs.Auction.with_report.Reads as reads
-use Rattle.live.proofs.Auction.with_report.Lts as lts
-use Rattle.round.proofs.add_bidder.Reads as add-bidder-reads
-use Rattle.sets.proofs.with_bidder.Reads as with-bidder-reads
 
 sub-k : tie.Need-sub-k
 sub-k c = search needs

@@ -1,6 +1,5 @@
 -- `live::Auction::written` meets its contract. Assumes nothing.
 use Prim.Native.Nat.{ℕ}
-use mathlib.Core.Path.{_≡_}
 use mathlib.Core.List.{List}
 use native.Mathlib.Omega.{arith}
 use borrow.Author.Needs.{needs}
@@ -8,10 +7,6 @@ use Rattle.live.proofs.Formed.{items-range, bidders-range}
 use Rattle.live.proofs.Reading.{told, left}
 use Rattle.live.proofs.Auction.written.Statement.{statement}
 use Rattle.live.proofs.Auction.written.Tie as tie
-use Rattle.live.proofs.Auction.written.Reads as reads
-use Rattle.live.proofs.Auction.written.Lts as lts
-use Rattle.lines.proofs.write_closing.Reads as write-closing-reads
-use Rattle.live.proofs.Auction.names.Reads as names-reads
 
 names-requires : tie.Need-names-requires
 names-requires c κs = c .before .pre
