@@ -20,7 +20,7 @@ use Rattle.rule.specs.Round.{Phase as RulePhase}
 use Rattle.rule.specs.Closing.{demandsAt, excessDemandAt, roundOf, phaseAfter, Closing}
 use Rattle.rule.proofs.Limits.{Limits}
 use Rattle.rule.proofs.Refusal.{passed}
-use Rattle.round.proofs.Moving.{raise-places, lower-places}
+use Rattle.prices.proofs.Moving.{raise-places, lower-places}
 use Rattle.live.specs.Auction.{reportsOf, missing, aboveZero, risingSet, wellFormed}
 use Rattle.live.specs.Calls.{isClosed, isFalling, isRising, atTop, endNumber, ruled, roundBy, settled, gives, refused, endAnswer, endNext}
 use Rattle.live.specs.declared.Phase.{Phase}

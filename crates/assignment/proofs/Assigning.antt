@@ -15,7 +15,7 @@ use Rattle.rule.specs.Assignment.{option, fits, someList, choose, assignment}
 use Rattle.rule.proofs.Order.{Listed, listed, some-make, choose-passes}
 use Rattle.rule.proofs.Completion as R
 use Rattle.round.specs.Reports.{reports}
-use Rattle.round.proofs.Filling.{Filled, fill-start, fill-next, fill-places}
+use Rattle.sets.proofs.Filling.{Filled, fill-start, fill-next, fill-places}
 use Rattle.round.proofs.Reporting.{reports-length}
 use Rattle.assignment.specs.Choice.{completed, nextOption, waitingAfter, takenBy, Begun}
 use Rattle.assignment.proofs.Waiting.{waiting-next, taken-none, taken-next, option-at, snoc-length}

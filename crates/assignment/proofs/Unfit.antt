@@ -13,7 +13,7 @@ use Rattle.sets.proofs.Lists.{is-tabulate}
 use Rattle.sets.proofs.Lowest.{is-null, lowest-unique}
 use Rattle.rule.specs.Assignment.{fits, someList, choose, assignment}
 use Rattle.round.specs.Reports.{reports}
-use Rattle.round.proofs.Filling.{zeros-at}
+use Rattle.sets.proofs.Filling.{zeros-at}
 use Rattle.round.proofs.Reporting.{reports-length}
 use Rattle.assignment.specs.Assigned.{assigned}
 use Rattle.assignment.specs.Choice.{completed}

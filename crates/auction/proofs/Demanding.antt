@@ -13,7 +13,7 @@ use Rattle.rule.specs.Sheet.{amount}
 use Rattle.rule.specs.Excess.{positive}
 use Rattle.rule.specs.Demand.{best, demand, demands}
 use Rattle.round.specs.Reports.{reports}
-use Rattle.round.proofs.Filling.{Filled, fill-start, fill-next}
+use Rattle.sets.proofs.Filling.{Filled, fill-start, fill-next}
 use Rattle.round.proofs.Adding.{add-next}
 use Rattle.round.proofs.Reporting.{map-tabulate}
 use Rattle.auction.specs.Lent.{lineOf, rowsOf}

@@ -13,7 +13,7 @@ use Rattle.rule.specs.Assignment.{assignment}
 use Rattle.rule.specs.Closing.{assignmentAt}
 use Rattle.rule.specs.Closing as rule
 use Rattle.round.specs.Reports.{reports, Reported}
-use Rattle.round.proofs.Moving.{demands-places, positive-places}
+use Rattle.prices.proofs.Moving.{demands-places, positive-places}
 use Rattle.assignment.specs.Assigned.{assigned}
 use Rattle.assignment.proofs.Unfit.{assigned-is}
 use Rattle.assignment.proofs.Narrowing.{assignment-narrow}

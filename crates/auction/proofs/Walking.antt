@@ -21,8 +21,8 @@ use Rattle.rule.proofs.Closing.{closing}
 use Rattle.rule.proofs.Moves.{raise-length, lower-length}
 use Rattle.rule.proofs.Largest.{demand-bound, supply-bound}
 use Rattle.rule.proofs.Path.{kept}
-use Rattle.round.specs.Prices.{raisePlaces}
-use Rattle.round.proofs.Moving.{places-amount, demands-places, positive-places, raise-room, raise-places, lower-places}
+use Rattle.prices.specs.Prices.{raisePlaces}
+use Rattle.prices.proofs.Moving.{places-amount, demands-places, positive-places, raise-room, raise-places, lower-places}
 use Rattle.round.proofs.Narrowing.{positive-narrow}
 
 -- along the path there is a price for each item

@@ -145,11 +145,11 @@ fn rise(start: &[u16], bids: &[u16], items: usize, bidders: usize) -> Moves
     ensures { λ r. ⌜ (r .rounds ≡ close (sheetOf items bidders (now (start .entry)) (now (bids .entry))) .ups)
         × (r .prices ≡ places 32 (path (sheetOf items bidders (now (start .entry)) (now (bids .entry))) (close (sheetOf items bidders (now (start .entry)) (now (bids .entry))) .ups) .prices)) ⌝ }
 {
-    let mut p = round::in_places(start);
+    let mut p = prices::in_places(start);
     let mut rounds: u32 = 0;
     let mut set = rising_at(&p, bids, items, bidders);
     while set != 0 {
-        p = round::raised(&p, set);
+        p = prices::raised(&p, set);
         rounds += 1;
         set = rising_at(&p, bids, items, bidders);
     }
@@ -178,7 +178,7 @@ fn rounds(start: &[u16], bids: &[u16], items: usize, bidders: usize) -> Path
     let mut downs: u32 = 0;
     let mut set = falling_at(&p, bids, items, bidders);
     while set != 0 {
-        p = round::lowered(&p, set);
+        p = prices::lowered(&p, set);
         downs += 1;
         set = falling_at(&p, bids, items, bidders);
     }
@@ -245,10 +245,10 @@ fn refusal(items: u32, bidders: u32, start: &[u16], bids: &[u16]) -> u8
     if bids.len() != bid_count(items, bidders) {
         return 3;
     }
-    if round::any_over(start) {
+    if prices::any_over(start) {
         return 4;
     }
-    if round::any_over(bids) {
+    if prices::any_over(bids) {
         return 5;
     }
     0

@@ -17,9 +17,9 @@ use Rattle.rule.specs.Sheet.{amount}
 use Rattle.rule.specs.Excess.{excessDemand, excessSupply, positive}
 use Rattle.rule.specs.Round.{raise}
 use Rattle.round.specs.Reports.{reports, Reported}
-use Rattle.round.specs.Prices.{raisePlaces}
+use Rattle.prices.specs.Prices.{raisePlaces}
 use Rattle.round.proofs.Narrowing.{positive-narrow, rising-narrow, falling-narrow}
-use Rattle.round.proofs.Moving.{raise-room}
+use Rattle.prices.proofs.Moving.{raise-room}
 use Rattle.live.specs.Auction.{place, isEmpty, beyond, aboveZero, reportsOf, risingSet, fallingSet, pricesFit}
 use Rattle.live.specs.Tidy.{Tidy}
 use Rattle.live.specs.declared.Auction.{Auction}

@@ -157,10 +157,10 @@ pub fn open(items: usize, bidders: usize, start: &[u16]) -> Reply
     if start.len() != items {
         return refused(3);
     }
-    if round::any_over(start) {
+    if prices::any_over(start) {
         return refused(4);
     }
-    let prices = round::in_places(start);
+    let prices = prices::in_places(start);
     Reply {
         number: 0,
         next: Auction {
@@ -201,7 +201,7 @@ impl Auction {
         ensures { λ r. ⌜ r ≡ pricesFit self ⌝ }
     {
         let prices = self.prices;
-        !round::any_over(&prices)
+        !prices::any_over(&prices)
     }
 
     // not: an unused place or bit is not zero. Prices past the items
@@ -549,7 +549,7 @@ impl Auction {
         ensures { λ r. ⌜ r ≡ record { ended = Moved Raised set; next = settled self (raised set) } ⌝ }
     {
         let prices = self.prices;
-        let higher = round::raised(&prices, set);
+        let higher = prices::raised(&prices, set);
         let next = self.cleared();
         Step {
             ended: Ended::Moved(Kind::Raised, set),
@@ -568,7 +568,7 @@ impl Auction {
         ensures { λ r. ⌜ r ≡ record { ended = Moved Lowered set; next = settled self (lowered set) } ⌝ }
     {
         let prices = self.prices;
-        let less = round::lowered(&prices, set);
+        let less = prices::lowered(&prices, set);
         let next = self.cleared();
         Step {
             ended: Ended::Moved(Kind::Lowered, set),

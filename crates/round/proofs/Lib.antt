@@ -1,5 +1,3 @@
-pub mod Filling
 pub mod Adding
 pub mod Reporting
 pub mod Narrowing
-pub mod Moving

@@ -1,19 +1,15 @@
-// What the rule of a round makes of reports, and of prices. The reports are held as an item set for each of 64 bidders and the set of the
-// bidders who say null; prices stand in 32 places. Where there are fewer items and bidders, the places past them hold zeros, and the laws
+// What the rule of a round makes of reports, and the items of price above 0. The reports are held as an item set for each of 64 bidders and the
+// set of the bidders who say null; prices stand in 32 places. Where there are fewer items and bidders, the places past them hold zeros, and the laws
 // of proofs/ carry each result over.
 ghost use mathlib.Core.Path.{_≡_};
 ghost use mathlib.Core.Bool.{cond, _&&_, _||_};
-ghost use Prim.Native.Nat.{ℕ, _+_, _-_, min};
+ghost use Prim.Native.Nat.{ℕ, _+_};
 ghost use lib.Dec.{eqb};
 ghost use lib.ListN.{getD};
 ghost use Rattle.sets.specs.Bit.{has, setOf};
-ghost use Rattle.sets.specs.Count.{toNat};
-ghost use Rattle.sets.specs.Lists.{tabulate, places};
+ghost use Rattle.sets.specs.Lists.{tabulate};
 ghost use Rattle.rule.specs.Excess.{excessDemand, excessSupply, positive};
-ghost use Rattle.rule.specs.Round.{lower};
-ghost use Rattle.rule.specs.Refusal.{anyOver};
 ghost use Rattle.round.specs.Reports.{reports};
-ghost use Rattle.round.specs.Prices.{raisePlaces};
 
 // The set, and item i where `on` says so.
 pub fn add_item(s: u32, i: usize, on: bool) -> u32
@@ -99,93 +95,4 @@ pub fn positive(prices: &[u16; 32]) -> u32
         i += 1;
     }
     s
-}
-
-// The price, up by 1 where `on` says so; 65,535 stays.
-fn up(price: u16, on: bool) -> u16
-    ensures { λ r. ⌜ r ≡ min 65535 (price + toNat on) ⌝ }
-{
-    if !on {
-        return price;
-    }
-    if price == 65535 {
-        return price;
-    }
-    price + 1
-}
-
-// The price, down by 1 where `on` says so; 0 stays.
-fn down(price: u16, on: bool) -> u16
-    ensures { λ r. ⌜ r ≡ price - toNat on ⌝ }
-{
-    if !on {
-        return price;
-    }
-    if price == 0 {
-        return price;
-    }
-    price - 1
-}
-
-// The prices, with those of the items in the set up by 1.
-pub fn raised(prices: &[u16; 32], set: u32) -> [u16; 32]
-    ensures { λ r. ⌜ r ≡ raisePlaces (now (prices .entry)) set ⌝ }
-{
-    let mut next = [0u16; 32];
-    let mut i: usize = 0;
-    while i < 32 {
-        next[i] = up(prices[i], sets::has_item(set, i + 1));
-        i += 1;
-    }
-    next
-}
-
-// And down by 1.
-pub fn lowered(prices: &[u16; 32], set: u32) -> [u16; 32]
-    ensures { λ r. ⌜ r ≡ lower 32 (now (prices .entry)) set ⌝ }
-{
-    let mut next = [0u16; 32];
-    let mut i: usize = 0;
-    while i < 32 {
-        next[i] = down(prices[i], sets::has_item(set, i + 1));
-        i += 1;
-    }
-    next
-}
-
-// Some amount is above 4,095: what 4 asks of starting prices and 5 of bids.
-pub fn any_over(xs: &[u16]) -> bool
-    ensures { λ r. ⌜ r ≡ anyOver (now (xs .entry)) ⌝ }
-{
-    let mut i: usize = 0;
-    while i < xs.len() {
-        if 4095 < xs[i] {
-            return true;
-        }
-        i += 1;
-    }
-    false
-}
-
-// What stands at a place, and 0 past the end.
-fn value(xs: &[u16], i: usize) -> u16
-    ensures { λ r. ⌜ r ≡ getD (now (xs .entry)) i 0 ⌝ }
-{
-    if i < xs.len() {
-        return xs[i];
-    }
-    0
-}
-
-// Starting prices in 32 places; what stands past 32 is left out.
-pub fn in_places(start: &[u16]) -> [u16; 32]
-    ensures { λ r. ⌜ r ≡ places 32 (now (start .entry)) ⌝ }
-{
-    let mut next = [0u16; 32];
-    let mut i: usize = 0;
-    while i < 32 {
-        next[i] = value(start, i);
-        i += 1;
-    }
-    next
 }

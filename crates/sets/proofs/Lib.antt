@@ -8,3 +8,4 @@ pub mod Lowest
 pub mod Words
 pub mod Largest
 pub mod Lists
+pub mod Filling

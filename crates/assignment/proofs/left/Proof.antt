@@ -4,7 +4,7 @@ use mathlib.Core.Path.{ap, _∙_}
 use mathlib.Core.Bool.{Bool, _&&_, not, cond}
 use lib.ListN.{getD}
 use Rattle.sets.specs.Bit.{has, setOf}
-use Rattle.round.proofs.Filling.{Filled, fill-start, fill-next, fill-end}
+use Rattle.sets.proofs.Filling.{Filled, fill-start, fill-next, fill-end}
 use borrow.Author.Needs.{needs}
 use Rattle.assignment.proofs.left.Statement.{statement}
 use Rattle.assignment.proofs.left.Tie as tie

@@ -1,11 +1,11 @@
 -- `console::starts` meets its contract. Assumes nothing.
 use Prim.Native.Nat.{_-_}
-use mathlib.Core.Path.{_≡_, _∙_}
+use mathlib.Core.Path.{_≡_}
 use mathlib.Core.Bool.{true}
 use lib.ListN.{getD}
 use borrow.Author.Needs.{needs}
-use Rattle.round.proofs.Filling.{Filled, fill-start, fill-next, fill-end}
-use Rattle.round.proofs.Moving.{places-is}
+use Rattle.sets.specs.Lists.{places}
+use Rattle.sets.proofs.Filling.{Filled, fill-start, fill-next, fill-end}
 use Rattle.console.specs.Orders.{startsAt, startsOf}
 use Rattle.console.specs.Steps.{isRead}
 use Rattle.console.proofs.starts.Statement.{statement}
@@ -41,9 +41,10 @@ loop-again c =
     (fill-next 33 _ (at .i) (at .start) (c .price .result) (at .inv .0) (c .before .loop-test .taken) (c .price .ensures), at .inv .1)
 
 returns : tie.Need-returns Inv-loop μ-loop
+unfolding places
 returns c =
     let at = c .before .loop in
-    fill-end 33 _ (at .i) (at .start) (at .inv .0) (c .loop-test .left) ∙ places-is 33 (startsOf (c .before .before .before .args .line .now))
+    fill-end 33 _ (at .i) (at .start) (at .inv .0) (c .loop-test .left)
 
 pub starts-spec : {M : Type 1} → statement M
 starts-spec =

@@ -4,7 +4,7 @@ use mathlib.Core.Path.{ap, _∙_}
 use mathlib.Core.Bool.{Bool, cond}
 use lib.ListN.{getD}
 use Rattle.sets.specs.Bit.{has}
-use Rattle.round.proofs.Filling.{Filled, fill-start, fill-next, fill-end}
+use Rattle.sets.proofs.Filling.{Filled, fill-start, fill-next, fill-end}
 use borrow.Author.Needs.{needs}
 use Rattle.round.proofs.active.Statement.{statement}
 use Rattle.round.proofs.active.Tie as tie

@@ -3,7 +3,7 @@ use Prim.Native.Nat.{_-_}
 use mathlib.Core.Bool.{_&&_}
 use lib.ListN.{getD}
 use Rattle.sets.specs.Bit.{has, setOf}
-use Rattle.round.proofs.Filling.{Filled, fill-start, fill-next, fill-end}
+use Rattle.sets.proofs.Filling.{Filled, fill-start, fill-next, fill-end}
 use borrow.Author.Needs.{needs}
 use Rattle.round.proofs.inside.Statement.{statement}
 use Rattle.round.proofs.inside.Tie as tie

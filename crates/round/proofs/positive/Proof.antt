@@ -1,17 +1,23 @@
 -- `round::positive` meets its contract. Each turn adds one item, if its price is above 0. Assumes nothing.
-use Prim.Native.Nat.{_-_, _≤_}
+use Prim.Native.Nat.{ℕ, _+_, _-_, _≤_}
 use mathlib.Core.Path.{_≡_, refl, sym, ap}
+use mathlib.Core.List.{List}
 use native.Mathlib.Omega.{arith}
+use native.Mathlib.Numerals.{add-one}
 use lib.Dec.{ltb}
 use lib.ListN.{getD}
 use Rattle.sets.specs.Bit.{setOf}
 use Rattle.rule.specs.Sheet.{amount}
 use Rattle.rule.specs.Excess.{positive}
 use Rattle.round.proofs.Adding.{add-next, add-end}
-use Rattle.round.proofs.Moving.{amount-next}
 use borrow.Author.Needs.{needs}
 use Rattle.round.proofs.positive.Statement.{statement}
 use Rattle.round.proofs.positive.Tie as tie
+
+-- item k + 1 has the price at place k
+amount-next : (p : List ℕ) (k : ℕ) → amount p (k + 1) ≡ getD p k 0
+unfolding amount
+amount-next p k = ap (amount p) (add-one k)
 
 abbrev Inv-loop : tie.InvT-loop
 Inv-loop prices s₀ i₀ s i = (i ≤ 32) × (s ≡ setOf i (λ j. ltb 0 (amount prices j)))

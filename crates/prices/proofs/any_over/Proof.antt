@@ -1,4 +1,4 @@
--- `round::any_over` meets its contract. No amount passed so far is above 4,095. Assumes nothing.
+-- `prices::any_over` meets its contract. No amount passed so far is above 4,095. Assumes nothing.
 use Prim.Native.Nat.{ℕ, _-_, _≤_, _<_}
 use mathlib.Core.Path.{sym}
 use native.Mathlib.Omega.{arith}
@@ -6,8 +6,8 @@ use lib.ListN.{length, getD}
 use borrow.Author.Count.{below-none, below-more}
 use Rattle.rule.proofs.Refusal.{over-some, over-not}
 use borrow.Author.Needs.{needs}
-use Rattle.round.proofs.any_over.Statement.{statement}
-use Rattle.round.proofs.any_over.Tie as tie
+use Rattle.prices.proofs.any_over.Statement.{statement}
+use Rattle.prices.proofs.any_over.Tie as tie
 
 abbrev Inv-loop : tie.InvT-loop
 Inv-loop xs i₀ i = (i ≤ length xs) × ((k : ℕ) → k < i → getD xs k 0 ≤ 4095)

@@ -1,11 +1,11 @@
--- `round::down` meets its contract. Assumes nothing.
+-- `prices::down` meets its contract. Assumes nothing.
 use mathlib.Core.Path.{ap}
 use native.Mathlib.Omega.{arith}
 use Rattle.sets.specs.Count.{toNat}
 use borrow.Author.Tests.{not-true, not-false}
 use borrow.Author.Needs.{needs}
-use Rattle.round.proofs.down.Statement.{statement}
-use Rattle.round.proofs.down.Tie as tie
+use Rattle.prices.proofs.down.Statement.{statement}
+use Rattle.prices.proofs.down.Tie as tie
 
 returns : tie.Need-returns
 returns c = omega (arith, ap toNat (not-true (c .before .args .on) (c .if1 .taken)))

@@ -19,7 +19,7 @@ use Rattle.rule.specs.Sheet.{amount}
 use Rattle.rule.specs.Demand.{surplusAtLeast, best, demand, demands}
 use Rattle.rule.specs.Excess.{positive}
 use Rattle.rule.specs.Round.{raise, lower}
-use Rattle.round.specs.Prices.{raisePlaces}
+use Rattle.prices.specs.Prices.{raisePlaces}
 
 -- numbers from 0 and from 1
 shift : (n : ℕ) (f : ℕ → ℕ) (i : ℕ) → tabulate n (λ k. f (suc k)) i ≡ tabulate n f (suc i)
@@ -28,10 +28,6 @@ shift zero f i = refl
 shift (suc n) f i = ap (λ (xs : List ℕ). f (suc i) ∷ xs) (shift n f (suc i))
 
 -- ---- what the code computes, place by place
-
-pub amount-next : (p : List ℕ) (k : ℕ) → amount p (k + 1) ≡ getD p k 0
-unfolding amount
-amount-next p k = ap (amount p) (add-one k)
 
 pub raised-is : (p : List ℕ) (s : ℕ) → tabulate 32 (λ k. min 65535 (getD p k 0 + toNat (has s (k + 1)))) 0 ≡ raisePlaces p s
 unfolding raisePlaces amount
@@ -44,10 +40,6 @@ unfolding lower amount
 lowered-is p s =
     ap (λ (f : ℕ → ℕ). tabulate 32 (λ k. getD p k 0 - toNat (has s (f k))) 0) (fun-ext add-one)
     ∙ shift 32 (λ i. amount p i - toNat (has s i)) 0
-
-pub places-is : (w : ℕ) (xs : List ℕ) → tabulate w (λ k. getD xs k 0) 0 ≡ places w xs
-unfolding places
-places-is w xs = refl
 
 -- where no price of the set is 65,535, the code raises as the rule does
 pub raise-room : (p : List ℕ) (s : ℕ) → ((i : ℕ) → amount p i + toNat (has s i) ≤ 65535) → raisePlaces p s ≡ raise 32 p s

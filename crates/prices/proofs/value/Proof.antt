@@ -1,9 +1,9 @@
--- `round::value` meets its contract. Assumes nothing.
+-- `prices::value` meets its contract. Assumes nothing.
 use mathlib.Core.Path.{sym}
 use lib.ListN.{List·getD-eq-default}
 use borrow.Author.Needs.{needs}
-use Rattle.round.proofs.value.Statement.{statement}
-use Rattle.round.proofs.value.Tie as tie
+use Rattle.prices.proofs.value.Statement.{statement}
+use Rattle.prices.proofs.value.Tie as tie
 
 mul-result : tie.Need-mul-result
 mul-result c = search needs

@@ -1,12 +1,11 @@
--- `round::in_places` meets its contract. Each turn fills one place. Assumes nothing.
+-- `prices::in_places` meets its contract. Each turn fills one place. Assumes nothing.
 use Prim.Native.Nat.{_-_}
-use mathlib.Core.Path.{_∙_}
 use lib.ListN.{getD}
-use Rattle.round.proofs.Filling.{Filled, fill-start, fill-next, fill-end}
-use Rattle.round.proofs.Moving.{places-is}
+use Rattle.sets.specs.Lists.{places}
+use Rattle.sets.proofs.Filling.{Filled, fill-start, fill-next, fill-end}
 use borrow.Author.Needs.{needs}
-use Rattle.round.proofs.in_places.Statement.{statement}
-use Rattle.round.proofs.in_places.Tie as tie
+use Rattle.prices.proofs.in_places.Statement.{statement}
+use Rattle.prices.proofs.in_places.Tie as tie
 
 abbrev Inv-loop : tie.InvT-loop
 Inv-loop start next₀ i₀ next i = Filled 32 (λ k. getD start k 0) i next
@@ -38,10 +37,10 @@ loop-again c =
     fill-next 32 _ (at .i) (at .next) (c .value .result) (at .inv) (c .before .loop-test .taken) (c .value .ensures)
 
 returns : tie.Need-returns Inv-loop μ-loop
+unfolding places
 returns c =
-    let a = c .before .before .before .args in
     let at = c .before .loop in
-    fill-end 32 _ (at .i) (at .next) (at .inv) (c .loop-test .left) ∙ places-is 32 (a .start .now)
+    fill-end 32 _ (at .i) (at .next) (at .inv) (c .loop-test .left)
 
 pub in-places-spec : {M : Type 1} → statement M
 in-places-spec =
