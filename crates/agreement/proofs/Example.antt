@@ -14,7 +14,8 @@ use Rattle.rule.specs.Excess.{bidders, crowded, inExcess, inPositiveExcess, exc
 use Rattle.rule.specs.Round.{raise, lower, lowered, closed, roundFalling, round, move, roundAt, after, opening, path, close}
 use Rattle.rule.specs.Assignment.{option, holders, isAssignment, fits, someList, choose, assignment}
 use Rattle.rule.specs.Refusal.{first, badItems, badBidders, badLength, anyOver, badBidder}
-use Rattle.lines.specs.Lines.{digit, hex, newline, joined, closingSheet, closingLength, writtenTo}
+use Rattle.digits.specs.Digits.{digit, hex}
+use Rattle.lines.specs.Lines.{newline, joined, closingSheet, closingLength, writtenTo}
 use Rattle.round.specs.Reports.{reports}
 use Rattle.live.specs.Auction.{place, hasReported, missing, isEmpty, beyond, unfit, reportsOf, aboveZero, risingSet, fallingSet, countsFit, pricesFit, unusedPrices, unusedPlaces, unusedBits, reportedFit, othersEmpty, roundsFit, closeFits, wellFormed}
 use Rattle.live.specs.Calls.{openNumber, opened, unopened, openAuction, saying, reportNumber, withReport, report, clearNumber, cleared, clear, atTop, endNumber, roundBy, settled, gives, refused, endAnswer, endNext}

@@ -17,7 +17,8 @@ use Rattle.rule.specs.Assignment.{assignment}
 use Rattle.rule.specs.Closing.{assignmentAt, Closing}
 use Rattle.rule.proofs.Limits.{Limits}
 use Rattle.rule.proofs.Refusal.{passed}
-use Rattle.lines.specs.Lines.{hex, newline, joined, closingSheet, closingLength, writtenTo}
+use Rattle.digits.specs.Digits.{hex}
+use Rattle.lines.specs.Lines.{newline, joined, closingSheet, closingLength, writtenTo}
 use Rattle.live.specs.Auction.{reportsOf, aboveZero, wellFormed}
 use Rattle.live.specs.Calls.{isClosed}
 use Rattle.live.specs.Reading.{readNumber, namesOf, sheetOf, readBytes}

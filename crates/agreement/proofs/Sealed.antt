@@ -11,7 +11,8 @@ use Rattle.rule.specs.Sheet.{Sheet, withinLimits}
 use Rattle.rule.specs.Round.{close}
 use Rattle.rule.specs.Closing.{assignmentAt}
 use Rattle.rule.proofs.Limits.{limits}
-use Rattle.lines.specs.Lines.{hex, newline, joined, closingSheet}
+use Rattle.digits.specs.Digits.{hex}
+use Rattle.lines.specs.Lines.{newline, joined, closingSheet}
 use Rattle.auction.specs.Sealed.{closed}
 use Rattle.agreement.specs.Machine.{sealedSheet}
 use Rattle.agreement.proofs.Lists.{joined-cong}

@@ -12,7 +12,7 @@ use borrow.Author.Tests.{lt-ltb, le-ltb}
 use Rattle.rule.specs.Round.{Round, raised, lowered, closed}
 use Rattle.rule.specs.Refusal.{on, badItems, badBidders, badLength, anyOver}
 use Rattle.lines.specs.Lines.{writtenTo}
-use Rattle.lines.specs.Reading.{_>>=_, numberAt}
+use Rattle.digits.specs.Reading.{_>>=_, numberAt}
 use Rattle.lines.proofs.Stores.{sets-front}
 use Rattle.live.specs.Calls.{saying, openNumber, opened, unopened, openAuction, report, clear, endNumber, roundBy, settled, Ending, gives, refused, endAnswer, endNext}
 use Rattle.live.specs.declared.Auction.{Auction}

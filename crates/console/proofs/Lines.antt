@@ -8,10 +8,10 @@ use native.Mathlib.Omega.{arith}
 use lib.Dec.{eqb}
 use lib.ListN.{length, getD}
 use borrow.Author.Tests.{eq-eqb, ne-eqb, le-leb, lt-leb}
-use Rattle.lines.specs.Reading.{_>>=_, numberAt, numberIn, asNumber}
-use Rattle.lines.specs.declared.Number.{Number}
-use Rattle.lines.specs.declared.Number.the-variants.{Is, Nothing}
-use Rattle.lines.proofs.Walking.{few-digits}
+use Rattle.digits.specs.Reading.{_>>=_, numberAt, numberIn, asNumber}
+use Rattle.digits.specs.declared.Number.{Number}
+use Rattle.digits.specs.declared.Number.the-variants.{Is, Nothing}
+use Rattle.digits.proofs.Walking.{few-digits}
 use Rattle.console.specs.Orders.{starts, alone, startsAt, opening, reporting, orderOf}
 use Rattle.console.specs.Steps.{isRead, letterOrder}
 use Rattle.console.specs.declared.Order.{Order}

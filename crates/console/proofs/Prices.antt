@@ -9,8 +9,9 @@ use native.Mathlib.Nat.{not-suc-le-zero}
 use lib.Dec.{eqb}
 use lib.ListN.{length, getD, List·getD-eq-default}
 use borrow.Author.Tests.{eq-eqb, ne-eqb, eqb-true}
-use Rattle.lines.specs.Reading.{_>>=_, numberAt, numbersAt}
-use Rattle.lines.proofs.Gives.{gives, gave}
+use Rattle.digits.specs.Reading.{_>>=_, numberAt}
+use Rattle.lines.specs.Reading.{numbersAt}
+use Rattle.digits.proofs.Gives.{gives, gave}
 use Rattle.console.specs.Orders.{startsAt, startsOf}
 use Rattle.console.specs.Steps.{isRead}
 

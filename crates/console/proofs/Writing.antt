@@ -7,11 +7,13 @@ use native.Mathlib.Omega.{arith}
 use lib.Dec.{leb}
 use lib.ListN.{length, set, length-append}
 use lib.Seq.{sets, length-sets}
-use borrow.Author.Tests.{le-leb}
 use Rattle.rule.specs.Round.{raised, lowered, closed}
-use Rattle.lines.specs.Lines.{hex, newline, pricesLine, hasRoom}
+use Rattle.digits.specs.Digits.{hex}
+use Rattle.lines.specs.Lines.{newline, pricesLine, hasRoom}
 use Rattle.lines.proofs.Stores.{sets-then}
-use Rattle.lines.proofs.Lengths.{hex-length, line-length}
+use Rattle.digits.proofs.Digits.{hex-length}
+use Rattle.digits.proofs.Room.{written}
+use Rattle.lines.proofs.Lengths.{line-length}
 use Rattle.lines.proofs.Written.{room-priced}
 use Rattle.live.specs.Calls.{Ending, gives, refused}
 use Rattle.live.specs.declared.Auction.{Auction}
@@ -98,9 +100,6 @@ open-put o out mid after z l e f =
     }
 
 -- ---- a round
-
-written : (out after : List ℕ) (at n x : ℕ) → at + n ≤ length out → after ≡ cond (leb (at + n) (length out)) (sets out at (hex n x)) out → after ≡ sets out at (hex n x)
-written out after at n x l e = e ∙ ap (λ (b : Bool). cond b (sets out at (hex n x)) out) (le-leb (at + n) (length out) l)
 
 module _ (out a b after : List ℕ) (kind set : ℕ) (long : 12 ≤ length out) (e : a ≡ sets out 0 (numberText 0)) where
   same-a : length a ≡ length out

@@ -3,7 +3,8 @@ use Prim.Native.Nat.{ℕ, zero, suc, _+_, _/_, _%_}
 use mathlib.Core.List.{List, [], _∷_, _++_}
 use lib.ListN.{replicate}
 use Rattle.rule.specs.Round.{Round, raised, lowered, closed}
-use Rattle.lines.specs.Lines.{hex, newline, pricesLine}
+use Rattle.digits.specs.Digits.{hex}
+use Rattle.lines.specs.Lines.{newline, pricesLine}
 use Rattle.live.specs.Calls.{saying, openAuction, report, clear, Ending, gives, refused, endAnswer, endNext}
 use Rattle.live.specs.Reading.{readNumber, sheetOf}
 use Rattle.live.specs.declared.Auction.{Auction}

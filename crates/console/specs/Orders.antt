@@ -5,7 +5,8 @@ use mathlib.Core.List.{List, []}
 use mathlib.Core.Option.{Option, none, some, Option·getD}
 use lib.Dec.{leb, eqb}
 use lib.ListN.{length, getD}
-use Rattle.lines.specs.Reading.{_>>=_, numberAt, numbersAt}
+use Rattle.digits.specs.Reading.{_>>=_, numberAt}
+use Rattle.lines.specs.Reading.{numbersAt}
 use Rattle.console.specs.declared.Order.{Order}
 use Rattle.console.specs.declared.Order.the-variants.{Open, Report, End, Clear, Read, Unknown}
 

@@ -2,7 +2,7 @@
 //
 // `o` + 2 hexadecimal digits items + 2 bidders + 4 for each starting price opens; `r` + 2 digits bidder + 01 or 00 for null + 8 digits item set
 // reports; `e` ends the round; `c` clears the reports; `s` reads the close. Any other line is answered 06.
-use lines::Number;
+use digits::Number;
 use live::Auction;
 use live::Ended;
 use live::Kind;
@@ -16,8 +16,8 @@ ghost use Prim.Native.Nat.{ℕ, _+_, _*_, _-_, _/_, _≤_, _<_, min};
 ghost use lib.ListN.{length, getD};
 ghost use lib.Seq.{sets};
 ghost use Rattle.sets.specs.Lists.{places};
-ghost use Rattle.lines.specs.Lines.{hex};
-ghost use Rattle.lines.specs.Reading.{numberAt};
+ghost use Rattle.digits.specs.Digits.{hex};
+ghost use Rattle.digits.specs.Reading.{numberAt};
 ghost use Rattle.rule.specs.Round.{Round};
 ghost use Rattle.live.specs.Calls.{openAuction, endingOf, gives};
 ghost use Rattle.console.specs.Orders.{opening, reporting, orderOf, startsAt, startsOf};
@@ -65,7 +65,7 @@ fn price_there(line: &[u8], i: usize) -> bool
     requires { ⌜ 4 * i ≤ length (now line) ⌝ }
     ensures { λ r. ⌜ r ≡ isRead (numberAt 4 (now (line .entry)) (5 + 4 * i)) ⌝ }
 {
-    let x = lines::number_at(line, 5 + 4 * i, 4);
+    let x = digits::number_at(line, 5 + 4 * i, 4);
     match x {
         Number::Is(_) => true,
         Number::Nothing => false,
@@ -99,7 +99,7 @@ fn price(line: &[u8], i: usize) -> u16
     if rest(line) / 4 <= i {
         return 0;
     }
-    let x = lines::number_at(line, 5 + 4 * i, 4);
+    let x = digits::number_at(line, 5 + 4 * i, 4);
     match x {
         Number::Is(p) => p as u16,
         Number::Nothing => 0,
@@ -140,10 +140,10 @@ fn open_by(line: &[u8], items: usize, bidders: usize) -> Reply
 fn opening(line: &[u8]) -> Order
     ensures { λ r. ⌜ r ≡ Option·getD (opening (now (line .entry))) Order.Unknown ⌝ }
 {
-    let Number::Is(items) = lines::number_at(line, 1, 2) else {
+    let Number::Is(items) = digits::number_at(line, 1, 2) else {
         return Order::Unknown;
     };
-    let Number::Is(bidders) = lines::number_at(line, 3, 2) else {
+    let Number::Is(bidders) = digits::number_at(line, 3, 2) else {
         return Order::Unknown;
     };
     if !starts_there(line) {
@@ -159,13 +159,13 @@ fn reporting(line: &[u8]) -> Order
     if line.len() != 13 {
         return Order::Unknown;
     }
-    let Number::Is(bidder) = lines::number_at(line, 1, 2) else {
+    let Number::Is(bidder) = digits::number_at(line, 1, 2) else {
         return Order::Unknown;
     };
-    let Number::Is(null) = lines::number_at(line, 3, 2) else {
+    let Number::Is(null) = digits::number_at(line, 3, 2) else {
         return Order::Unknown;
     };
-    let Number::Is(set) = lines::number_at(line, 5, 8) else {
+    let Number::Is(set) = digits::number_at(line, 5, 8) else {
         return Order::Unknown;
     };
     if 1 < null {
@@ -269,8 +269,8 @@ fn put_round(out: &mut [u8], kind: u32, set: u32)
     ensures { λ _. ⌜ now (out .exit) ≡ sets (now (out .entry)) 0 (numberText 0 ++ (hex 2 kind ++ hex 8 set)) ⌝ }
 {
     put_text(out, 0);
-    lines::write_number(out, 2, 2, kind);
-    lines::write_number(out, 4, 8, set);
+    digits::write_number(out, 2, 2, kind);
+    digits::write_number(out, 4, 8, set);
 }
 
 // The answer to an end that was not turned down.

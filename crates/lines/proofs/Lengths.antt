@@ -1,15 +1,12 @@
 -- How long the lines and the closing sheet are. Assumes nothing.
-use Prim.Native.Nat.{ℕ, zero, suc, _+_, _*_, _/_, _%_, _≤_}
+use Prim.Native.Nat.{ℕ, zero, suc, _+_, _*_, _≤_}
 use mathlib.Core.Path.{_≡_, refl, ap}
-use mathlib.Core.List.{List, [], _∷_, _++_, append-assoc}
+use mathlib.Core.List.{List, _++_, append-assoc}
 use native.Mathlib.Omega.{arith}
 use lib.ListN.{length, getD, drop, length-append, length-drop}
-use Rattle.lines.specs.Lines.{digit, hex, newline, joined, closingSheet, closingLength, writtenTo}
-
-pub hex-length : (n x : ℕ) → length (hex n x) ≡ n
-unfolding hex
-hex-length zero x = refl
-hex-length (suc n) x = omega (arith, length-append (hex n (x / 16)) (digit (x % 16) ∷ []), hex-length n (x / 16))
+use Rattle.digits.specs.Digits.{hex}
+use Rattle.digits.proofs.Digits.{hex-length}
+use Rattle.lines.specs.Lines.{newline, joined, closingSheet, closingLength, writtenTo}
 
 pub joined-length : (n c : ℕ) (f : ℕ → List ℕ) → ((k : ℕ) → length (f k) ≡ c) → length (joined n f) ≡ c * n
 unfolding joined

@@ -1,11 +1,7 @@
 pub mod Stores
 pub mod Lengths
-pub mod Digits
 pub mod Written
-pub mod Stands
-pub mod Gives
 pub mod Numbers
 pub mod Line
 pub mod ReadBack
 pub mod Same
-pub mod Walking

@@ -10,11 +10,13 @@ use native.Mathlib.Decide.{decLt}
 use lib.ListN.{length, getD, List·getD-eq-default}
 use borrow.Author.Tests.{eq-eqb, eqb-true}
 use Rattle.sets.specs.Lists.{tabulate}
-use Rattle.lines.specs.Lines.{hex, newline, joined}
+use Rattle.digits.specs.Digits.{hex}
+use Rattle.digits.proofs.Digits.{hex-length}
+use Rattle.digits.proofs.Stands.{Stands, front, back, both, one}
+use Rattle.digits.proofs.Gives.{gives, gave}
+use Rattle.lines.specs.Lines.{newline, joined}
 use Rattle.lines.specs.Reading.{numbersAt, endsAt, lineAt}
-use Rattle.lines.proofs.Lengths.{hex-length, joined-length}
-use Rattle.lines.proofs.Stands.{Stands, front, back, both, one}
-use Rattle.lines.proofs.Gives.{gives, gave}
+use Rattle.lines.proofs.Lengths.{joined-length}
 use Rattle.lines.proofs.Numbers.{Read, numbers-at, numbers-read}
 
 -- k numbers of c digits each take c * k bytes

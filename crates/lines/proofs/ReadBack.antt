@@ -2,16 +2,18 @@
 use Prim.Native.Nat.{ℕ, zero, suc, _+_, _*_, _^_, _<_}
 use mathlib.Core.Path.{_≡_, sym, ap, _∙_, subst}
 use mathlib.Core.List.{List, [], _∷_, _++_, append-nil}
-use mathlib.Core.Option.{some}
+use mathlib.Core.Option.{Option, some}
 use native.Mathlib.Omega.{arith}
 use native.Mathlib.Nat.{not-suc-le-zero}
 use lib.ListN.{length, getD, length-append}
 use Rattle.sets.specs.Lists.{tabulate, places}
-use Rattle.lines.specs.Lines.{hex, newline, joined, closingSheet}
-use Rattle.lines.specs.Reading.{_>>=_, lineAt, readClosing}
+use Rattle.digits.specs.Digits.{hex}
+use Rattle.digits.specs.Reading.{_>>=_}
+use Rattle.digits.proofs.Stands.{Stands, itself, front, back}
+use Rattle.digits.proofs.Gives.{gives}
+use Rattle.lines.specs.Lines.{newline, joined, closingSheet}
+use Rattle.lines.specs.Reading.{Said, lineAt, readClosing}
 use Rattle.lines.proofs.Lengths.{rounds-length, line-length, by-lines}
-use Rattle.lines.proofs.Stands.{Stands, itself, front, back}
-use Rattle.lines.proofs.Gives.{gives}
 use Rattle.lines.proofs.Line.{line-at}
 
 -- the first line is one of two numbers
@@ -23,6 +25,10 @@ both-small : (u d b : ℕ) → u < b → d < b → (i : ℕ) → i < 2 → getD 
 both-small u d b h l zero k = h
 both-small u d b h l (suc zero) k = l
 both-small u d b h l (suc (suc i)) k = absurd (not-suc-le-zero {n = i} (omega arith))
+
+all-said : (a b c : Option (List ℕ)) (r p o : List ℕ) → a ≡ some r → b ≡ some p → c ≡ some o
+    → _≡_ {A = Option Said} (a >>= λ r. b >>= λ p. c >>= λ o. some (record { rounds = r; prices = p; options = o })) (some (record { rounds = r; prices = p; options = o }))
+all-said a b c r p o e f g = gives a _ r e ∙ gives b _ p f ∙ gives c _ o g
 
 pub read-back : (m n ups downs : ℕ) (prices options : List ℕ) → ups < 16 ^ 6 → downs < 16 ^ 6
     → ((i : ℕ) → i < m → getD prices i 0 < 16 ^ 4) → ((b : ℕ) → b < n → getD options b 0 < 16 ^ 2)
@@ -46,9 +52,4 @@ read-back m n ups downs prices options hu hd hp ho =
     (subst (λ (vs : List ℕ). Stands bytes 0 vs) (two ups downs) s₁) in
     let l₂ : lineAt m 4 bytes 13 ≡ some (places m prices) = line-at bytes m 4 13 (λ k. getD prices k 0) hp s₂ in
     let l₃ : lineAt n 2 bytes (14 + 4 * m) ≡ some (places n options) = line-at bytes n 2 (14 + 4 * m) (λ x. getD options x 0) ho s₃ in
-    gives (lineAt 2 6 bytes 0)
-    (λ r. lineAt m 4 bytes 13 >>= λ p. lineAt n 2 bytes (14 + 4 * m) >>= λ o. some (record { rounds = r; prices = p; options = o })) (ups ∷ downs ∷ []) l₁
-    ∙ gives (lineAt m 4 bytes 13)
-    (λ p. lineAt n 2 bytes (14 + 4 * m) >>= λ o. some (record { rounds = ups ∷ downs ∷ []; prices = p; options = o })) (places m prices) l₂
-    ∙ gives (lineAt n 2 bytes (14 + 4 * m))
-    (λ o. some (record { rounds = ups ∷ downs ∷ []; prices = places m prices; options = o })) (places n options) l₃
+    all-said (lineAt 2 6 bytes 0) (lineAt m 4 bytes 13) (lineAt n 2 bytes (14 + 4 * m)) (ups ∷ downs ∷ []) (places m prices) (places n options) l₁ l₂ l₃

@@ -5,7 +5,8 @@ use mathlib.Core.Path.{_≡_, refl, ap, _∙_}
 use mathlib.Core.List.{List, _++_}
 use native.Mathlib.Omega.{arith}
 use lib.ListN.{getD}
-use Rattle.lines.specs.Lines.{hex, newline, joined, closingSheet}
+use Rattle.digits.specs.Digits.{hex}
+use Rattle.lines.specs.Lines.{newline, joined, closingSheet}
 
 pub joined-same : (n : ℕ) (f g : ℕ → List ℕ) → ((k : ℕ) → k < n → f k ≡ g k) → joined n f ≡ joined n g
 unfolding joined

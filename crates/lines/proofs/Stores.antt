@@ -6,17 +6,8 @@ use native.Mathlib.Omega.{arith}
 use native.Mathlib.Nat.{add-zero, zero-add}
 use native.Mathlib.Numerals.{add-one}
 use lib.ListN.{length, set, drop}
-use lib.Seq.{sets, sets-eq, set-comm}
+use lib.Seq.{sets, sets-eq}
 use Rattle.lines.specs.Lines.{newline, joined, writtenTo}
-
--- the last of a run may be stored first
-pub sets-last : (l : List ℕ) (i : ℕ) (vs : List ℕ) (v : ℕ) → sets l i (vs ++ v ∷ []) ≡ sets (set l (i + length vs) v) i vs
-sets-last l i [] v = ap (λ (k : ℕ). set l k v) (sym (add-zero i))
-sets-last l i (a ∷ vs) v =
-    let e : suc i + length vs ≡ i + suc (length vs) = omega arith in
-    sets-last (set l i a) (suc i) vs v
-    ∙ ap (λ (k : ℕ). sets (set (set l i a) k v) (suc i) vs) e
-    ∙ ap (λ (r : List ℕ). sets r (suc i) vs) (set-comm l i (i + suc (length vs)) a v (omega arith))
 
 -- a run, and a run right behind it
 pub sets-both : (l : List ℕ) (i : ℕ) (vs ws : List ℕ) → sets (sets l i vs) (i + length vs) ws ≡ sets l i (vs ++ ws)

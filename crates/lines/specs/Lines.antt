@@ -1,18 +1,10 @@
--- Hexadecimal digits and the closing sheet's bytes: document 01, "Sheets". Assumes nothing: these are definitions.
-use Prim.Native.Nat.{ℕ, zero, suc, _+_, _*_, _/_, _%_}
+-- Lines of numbers, and the closing sheet's bytes: document 01, "Sheets". Assumes nothing: these are definitions.
+use Prim.Native.Nat.{ℕ, zero, suc, _+_, _*_}
 use mathlib.Core.Bool.{Bool, _&&_, cond}
 use mathlib.Core.List.{List, [], _∷_, _++_}
-use lib.Dec.{ltb, leb}
+use lib.Dec.{leb}
 use lib.ListN.{length, getD, drop}
-
--- a digit's byte: 0 to 9 and a to f
-unfoldable pub digit : ℕ → ℕ
-digit d = cond (ltb d 10) (48 + d) (87 + d)
-
--- the last n digits of x
-unfoldable pub hex : ℕ → ℕ → List ℕ
-hex zero x = []
-hex (suc n) x = hex n (x / 16) ++ digit (x % 16) ∷ []
+use Rattle.digits.specs.Digits.{hex}
 
 -- the byte that ends each line
 unfoldable pub newline : List ℕ

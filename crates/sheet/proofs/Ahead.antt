@@ -6,8 +6,9 @@ use mathlib.Core.List.{List, [], _∷_, _++_, append-assoc, append-nil}
 use mathlib.Core.Option.{Option, none, some}
 use native.Mathlib.Omega.{arith}
 use native.Mathlib.Nat.{lt-irrefl}
-use Rattle.lines.specs.Reading.{_>>=_, numberAt, numbersAt, endsAt, lineAt}
-use Rattle.lines.proofs.Gives.{gives}
+use Rattle.digits.specs.Reading.{_>>=_, numberAt}
+use Rattle.lines.specs.Reading.{numbersAt, endsAt, lineAt}
+use Rattle.digits.proofs.Gives.{gives}
 use Rattle.sheet.specs.Steps.{readAs}
 
 -- xs, and then what a reading gives

@@ -12,12 +12,15 @@ use lib.ListN.{length, getD, take, drop, length-append, length-drop, take-append
 use lib.Seq.{getD-append-add, getD-drop, getD-take, length-take-le}
 use borrow.Author.Tests.{eq-eqb, eqb-true}
 use Rattle.sets.proofs.Lists.{is-tabulate}
-use Rattle.lines.specs.Lines.{hex, newline, joined}
-use Rattle.lines.specs.Reading.{_>>=_, lineAt}
-use Rattle.lines.proofs.Lengths.{line-length, hex-length, joined-length, newline-length}
+use Rattle.digits.specs.Digits.{hex}
+use Rattle.lines.specs.Lines.{newline, joined}
+use Rattle.digits.specs.Reading.{_>>=_}
+use Rattle.lines.specs.Reading.{lineAt}
+use Rattle.digits.proofs.Digits.{hex-length}
+use Rattle.lines.proofs.Lengths.{line-length, joined-length, newline-length}
 use Rattle.lines.proofs.Same.{joined-same}
-use Rattle.lines.proofs.Stands.{Stands, nothing, front, back, both}
-use Rattle.lines.proofs.Gives.{gives, gave}
+use Rattle.digits.proofs.Stands.{Stands, nothing, front, back, both}
+use Rattle.digits.proofs.Gives.{gives, gave}
 use Rattle.lines.proofs.Line.{line-at, line-read}
 use Rattle.sheet.specs.BidSheet.{bidsAt}
 use Rattle.sheet.specs.Writing.{bidLine}

@@ -12,9 +12,10 @@ use lib.ListN.{length, getD, take, getElem?}
 use lib.Seq.{take-all, length-take-le, getD-take}
 use borrow.Author.Tests.{ltb-false}
 use Rattle.rule.specs.Refusal.{badItems, badBidders}
-use Rattle.lines.specs.Reading.{_>>=_, digitValue, digitAt, numberAt, lineAt}
-use Rattle.lines.proofs.Stands.{there}
-use Rattle.lines.proofs.Gives.{gave}
+use Rattle.digits.specs.Reading.{_>>=_, digitValue, digitAt, numberAt}
+use Rattle.lines.specs.Reading.{lineAt}
+use Rattle.digits.proofs.Stands.{there}
+use Rattle.digits.proofs.Gives.{gave}
 use Rattle.sheet.specs.BidSheet.{BidSheet, itemsIn, biddersIn, bidsAt, readSheet}
 use Rattle.sheet.specs.Close.{bidSheetOf, sheetRefusal, closingOf, byNumber, refusalLine, answerOf}
 use Rattle.sheet.proofs.Order.{no-items, no-bidders, bad-items, bad-bidders, unreadable}

@@ -9,8 +9,9 @@ use borrow.Author.Tests.{lt-ltb, le-ltb}
 use Rattle.rule.specs.Refusal.{on, first, badItems, badBidders, anyOver}
 use Rattle.rule.proofs.Refusal.{passed, given}
 use Rattle.lines.specs.Lines.{closingLength}
-use Rattle.lines.specs.Reading.{_>>=_, lineAt}
-use Rattle.lines.proofs.Gives.{gives, stops}
+use Rattle.digits.specs.Reading.{_>>=_}
+use Rattle.lines.specs.Reading.{lineAt}
+use Rattle.digits.proofs.Gives.{gives, stops}
 use Rattle.sheet.specs.BidSheet.{BidSheet, itemsIn, biddersIn, bidsAt, readSheet}
 use Rattle.sheet.specs.Close.{isNone, itemsOf, biddersOf, bidSheetOf, sheetRefusal}
 

@@ -8,12 +8,14 @@ use native.Mathlib.Omega.{arith}
 use native.Mathlib.Nat.{zero-add}
 use lib.ListN.{length, getD, length-append}
 use Rattle.sets.proofs.Lists.{is-tabulate}
-use Rattle.lines.specs.Lines.{hex, newline, joined}
+use Rattle.digits.specs.Digits.{hex}
+use Rattle.lines.specs.Lines.{newline, joined}
 use Rattle.lines.specs.Reading.{lineAt}
-use Rattle.lines.proofs.Lengths.{hex-length, line-length}
-use Rattle.lines.proofs.Stands.{Stands, itself, front, back, both, whole}
-use Rattle.lines.proofs.Gives.{gives, gave}
-use Rattle.lines.proofs.Numbers.{number-at, number-read}
+use Rattle.digits.proofs.Digits.{hex-length}
+use Rattle.lines.proofs.Lengths.{line-length}
+use Rattle.digits.proofs.Stands.{Stands, itself, front, back, both, whole}
+use Rattle.digits.proofs.Gives.{gives, gave}
+use Rattle.digits.proofs.Numbers.{number-at, number-read}
 use Rattle.lines.proofs.Line.{line-at, line-read}
 use Rattle.sheet.specs.BidSheet.{BidSheet, itemsIn, biddersIn, bidsAt, readSheet}
 use Rattle.sheet.specs.Writing.{bidLine, bidSheet, Writable}

@@ -11,9 +11,10 @@ use lib.Dec.{eqb}
 use lib.ListN.{length, take, length-append}
 use lib.Seq.{take-at, length-take-le}
 use borrow.Rule.Slice.PartMut.{midOf, postOf, putMid, mid-len}
-use Rattle.lines.specs.Reading.{_>>=_, lineAt}
+use Rattle.digits.specs.Reading.{_>>=_}
+use Rattle.lines.specs.Reading.{lineAt}
 use Rattle.lines.proofs.Lengths.{line-length}
-use Rattle.lines.proofs.Gives.{gives}
+use Rattle.digits.proofs.Gives.{gives}
 use Rattle.lines.proofs.Line.{line-read}
 use Rattle.sheet.specs.BidSheet.{bidsAt}
 use Rattle.sheet.specs.Steps.{readAs}

@@ -6,7 +6,7 @@ use mathlib.Core.List.{List, [], _∷_}
 use mathlib.Core.Option.{Option, none, some, Option·getD}
 use native.Mathlib.Omega.{arith}
 use Rattle.rule.specs.Refusal.{Refusal, on, first, badItems, badBidders}
-use Rattle.lines.proofs.Gives.{gave}
+use Rattle.digits.proofs.Gives.{gave}
 use Rattle.sheet.specs.BidSheet.{BidSheet, itemsIn, biddersIn, readSheet}
 use Rattle.sheet.specs.Writing.{bidSheet, Writable}
 use Rattle.sheet.specs.Close.{isNone, bidSheetOf, sheetRefusal}

@@ -5,8 +5,8 @@ use mathlib.Core.List.{List}
 use mathlib.Core.Option.{some}
 use native.Mathlib.Omega.{arith}
 use lib.ListN.{length}
-use Rattle.lines.proofs.Lengths.{hex-length}
-use Rattle.lines.proofs.Numbers.{number-read}
+use Rattle.digits.proofs.Digits.{hex-length}
+use Rattle.digits.proofs.Numbers.{number-read}
 use Rattle.sheet.specs.BidSheet.{itemsIn, biddersIn}
 
 module _ (bytes : List ℕ) (m : ℕ) (e : itemsIn bytes ≡ some m) where

@@ -6,7 +6,8 @@ use mathlib.Core.List.{List, [], _++_}
 use mathlib.Core.Option.{Option, none, some}
 use lib.Dec.{eqb}
 use lib.ListN.{length}
-use Rattle.lines.specs.Reading.{_>>=_, numberAt, lineAt}
+use Rattle.digits.specs.Reading.{_>>=_, numberAt}
+use Rattle.lines.specs.Reading.{lineAt}
 
 -- what a bid sheet says: how many items (pans) and bidders (rakers), each item's starting price (rent), and the bids, bidder after bidder
 pub record BidSheet : Type 0 where

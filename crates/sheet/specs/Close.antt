@@ -6,7 +6,8 @@ use mathlib.Core.Option.{Option, none, some, Option·getD}
 use lib.Dec.{ltb}
 use lib.ListN.{length}
 use Rattle.rule.specs.Refusal.{on, first, badItems, badBidders, anyOver}
-use Rattle.lines.specs.Lines.{digit, newline, closingSheet, closingLength, writtenTo}
+use Rattle.digits.specs.Digits.{digit}
+use Rattle.lines.specs.Lines.{newline, closingSheet, closingLength, writtenTo}
 use Rattle.auction.specs.Sealed.{sealedOf}
 use Rattle.sheet.specs.BidSheet.{BidSheet, itemsIn, biddersIn, readSheet}
 

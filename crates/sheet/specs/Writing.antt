@@ -3,7 +3,8 @@ use Prim.Native.Nat.{ℕ, _+_, _*_, _^_, _<_}
 use mathlib.Core.Path.{_≡_}
 use mathlib.Core.List.{List, _++_}
 use lib.ListN.{length, getD}
-use Rattle.lines.specs.Lines.{hex, newline, joined}
+use Rattle.digits.specs.Digits.{hex}
+use Rattle.lines.specs.Lines.{newline, joined}
 use Rattle.sheet.specs.BidSheet.{BidSheet}
 
 -- bidder b's line, b from 0: a bid for each of m items

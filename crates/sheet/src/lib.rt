@@ -1,12 +1,13 @@
 // Bid sheet in, closing sheet out. The sheet's bytes are not copied: reading goes on at a place of the lent bytes.
-use lines::Number;
+use digits::Number;
 ghost use mathlib.Core.Path.{_≡_};
 ghost use mathlib.Core.Bool.{false, _||_};
 ghost use mathlib.Core.Option.{some};
 ghost use Prim.Native.Nat.{_+_, _*_, _^_, _≤_, _<_};
 ghost use lib.Dec.{ltb};
 ghost use lib.ListN.{length, take};
-ghost use Rattle.lines.specs.Reading.{numberIn, asNumber, endsAt, lineAt};
+ghost use Rattle.digits.specs.Reading.{numberIn, asNumber};
+ghost use Rattle.lines.specs.Reading.{endsAt, lineAt};
 ghost use Rattle.lines.specs.Lines.{closingSheet, closingLength, writtenTo};
 ghost use Rattle.rule.specs.Refusal.{badItems, badBidders};
 ghost use Rattle.sheet.specs.BidSheet.{itemsIn, biddersIn, bidsAt};
@@ -47,7 +48,7 @@ fn after<'a>(r: Reader<'a>, bytes: usize) -> Reader<'a>
 fn number<'a>(r: Reader<'a>, digits: usize) -> Number
     ensures { λ n. ⌜ n ≡ asNumber (numberIn digits (now (r .entry .src)) (r .entry .at)) ⌝ }
 {
-    lines::number_at(r.src, r.at, digits)
+    digits::number_at(r.src, r.at, digits)
 }
 
 // What stands in so many digits, so many bytes past a place: the sheet's numbers are all read here.

@@ -4,7 +4,7 @@ use mathlib.Core.Option.{some}
 use native.Mathlib.Omega.{arith}
 use borrow.Author.Needs.{needs}
 use borrow.Author.Tests.{not-true, not-false}
-use Rattle.lines.specs.Reading.{numberAt}
+use Rattle.digits.specs.Reading.{numberAt}
 use Rattle.console.proofs.Lines.{number-is, number-not, no-items, no-bidders, no-starts, an-opening}
 use Rattle.console.proofs.opening.Statement.{statement}
 use Rattle.console.proofs.opening.Tie as tie

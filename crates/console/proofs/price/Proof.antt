@@ -5,8 +5,8 @@ use mathlib.Core.Option.{some, Option·some-injective}
 use native.Mathlib.Omega.{arith}
 use lib.ListN.{getD}
 use borrow.Author.Needs.{needs}
-use Rattle.lines.specs.Reading.{numberAt}
-use Rattle.lines.proofs.Numbers.{number-read}
+use Rattle.digits.specs.Reading.{numberAt}
+use Rattle.digits.proofs.Numbers.{number-read}
 use Rattle.console.specs.Orders.{startsOf}
 use Rattle.console.proofs.Lines.{number-is, number-not}
 use Rattle.console.proofs.Prices.{all-starts, past-starts, none-some}

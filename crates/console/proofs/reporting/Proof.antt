@@ -3,7 +3,7 @@ use mathlib.Core.Path.{_≡_}
 use mathlib.Core.Option.{some}
 use native.Mathlib.Omega.{arith}
 use borrow.Author.Needs.{needs}
-use Rattle.lines.specs.Reading.{numberAt}
+use Rattle.digits.specs.Reading.{numberAt}
 use Rattle.console.proofs.Lines.{number-is, number-not, not-long, no-bidder, no-null, no-set, other-null, a-report}
 use Rattle.console.proofs.reporting.Statement.{statement}
 use Rattle.console.proofs.reporting.Tie as tie

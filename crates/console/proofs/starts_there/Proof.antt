@@ -7,7 +7,7 @@ use lib.ListN.{length}
 use borrow.Author.Needs.{needs}
 use borrow.Author.Count.{below-more}
 use borrow.Author.Tests.{not-true, not-false}
-use Rattle.lines.specs.Reading.{numberAt}
+use Rattle.digits.specs.Reading.{numberAt}
 use Rattle.console.specs.Steps.{isRead}
 use Rattle.console.proofs.Prices.{odd-starts, starts-gone, starts-read}
 use Rattle.console.proofs.starts_there.Statement.{statement}

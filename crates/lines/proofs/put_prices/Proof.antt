@@ -1,11 +1,13 @@
 -- `lines::put_prices` meets its contract. Assumes nothing.
-use Prim.Native.Nat.{_-_, _≤_}
-use mathlib.Core.Path.{_≡_, refl}
+use Prim.Native.Nat.{ℕ, _+_, _*_, _-_, _≤_}
+use mathlib.Core.Path.{_≡_, refl, ap, _∙_}
 use native.Mathlib.Omega.{arith}
 use lib.ListN.{length, getD}
 use lib.Seq.{sets}
 use borrow.Author.Needs.{needs}
-use Rattle.lines.specs.Lines.{hex, joined}
+use Rattle.digits.specs.Digits.{hex}
+use Rattle.digits.proofs.Room.{written}
+use Rattle.lines.specs.Lines.{joined}
 use Rattle.lines.proofs.Stores.{one-more, line-end}
 use Rattle.lines.proofs.Lengths.{numbers-length}
 use Rattle.lines.proofs.put_prices.Statement.{statement}
@@ -21,20 +23,23 @@ loop-holds : tie.Need-loop-holds Inv-loop μ-loop
 unfolding joined
 loop-holds c = (refl, refl, omega arith)
 
-mul-put-price : tie.Need-mul-put-price Inv-loop μ-loop
-mul-put-price c = search needs
+mul-write-number : tie.Need-mul-write-number Inv-loop μ-loop
+mul-write-number c = search needs
 
-add-put-price : tie.Need-add-put-price Inv-loop μ-loop
-add-put-price c = search needs
+add-write-number : tie.Need-add-write-number Inv-loop μ-loop
+add-write-number c = search needs
 
-mul-put-price-2 : tie.Need-mul-put-price-2 Inv-loop μ-loop
-mul-put-price-2 c = search needs
+mul-wide-price : tie.Need-mul-wide-price Inv-loop μ-loop
+mul-wide-price c = search needs
 
-element-copy-out-put-price : tie.Need-element-copy-out-put-price Inv-loop μ-loop
-element-copy-out-put-price c = search needs
+element-copy-out-wide-price : tie.Need-element-copy-out-wide-price Inv-loop μ-loop
+element-copy-out-wide-price c = search needs
 
-put-price-requires : tie.Need-put-price-requires Inv-loop μ-loop
-put-price-requires c κs = search needs
+wide-price-requires : tie.Need-wide-price-requires Inv-loop μ-loop
+wide-price-requires c κs = search needs
+
+write-number-requires : tie.Need-write-number-requires Inv-loop μ-loop
+write-number-requires c κs = search needs
 
 add-i : tie.Need-add-i Inv-loop μ-loop
 add-i c = search needs
@@ -44,10 +49,12 @@ loop-less c = search needs
 
 loop-again : tie.Need-loop-again Inv-loop μ-loop
 loop-again c =
-    let a = c .before .before .before .before .before .before .before .before .args in
-    let l = c .before .before .before .before .before .before .loop in
-    let x = c .before .before .put-price in (
-      one-more (a .out .now) (a .at) (l .i) 4 (λ k. hex 4 (getD (a .prices .now) k 0)) (numbers-length (l .i) 4 (a .prices .now)) (l .out) (l .inv .0) (x .last .0) (x .ensures),
+    let a = c .before .before .before .before .before .before .before .before .before .args in
+    let l = c .before .before .before .before .before .before .before .loop in
+    let x = c .before .before .write-number in
+    let w = c .before .before .before .wide-price in (
+      one-more (a .out .now) (a .at) (l .i) 4 (λ k. hex 4 (getD (a .prices .now) k 0)) (numbers-length (l .i) 4 (a .prices .now)) (l .out) (l .inv .0) (x .last .0)
+          (written (l .out) (x .last .0) (a .at + 4 * l .i) 4 (w .result) (omega arith) (x .ensures .1) ∙ ap (λ (p : ℕ). sets (l .out) (a .at + 4 * l .i) (hex 4 p)) (w .ensures)),
       omega arith,
       omega arith,
     )
@@ -79,11 +86,12 @@ put-prices-spec =
     Inv-loop
     μ-loop
     loop-holds
-    mul-put-price
-    add-put-price
-    mul-put-price-2
-    element-copy-out-put-price
-    put-price-requires
+    mul-write-number
+    add-write-number
+    mul-wide-price
+    element-copy-out-wide-price
+    wide-price-requires
+    write-number-requires
     add-i
     loop-less
     loop-again

@@ -5,8 +5,9 @@ use native.Mathlib.Omega.{arith}
 use lib.ListN.{length}
 use lib.Seq.{sets}
 use borrow.Author.Needs.{needs}
+use Rattle.digits.proofs.Room.{left, done}
 use Rattle.lines.specs.Lines.{hasRoom, pricesLine}
-use Rattle.lines.proofs.Written.{left, done, many-priced, short-priced, room-priced}
+use Rattle.lines.proofs.Written.{many-priced, short-priced, room-priced}
 use Rattle.lines.proofs.write_prices.Statement.{statement}
 use Rattle.lines.proofs.write_prices.Tie as tie
 

@@ -7,7 +7,7 @@ use lib.ListN.{length}
 use borrow.Author.Needs.{needs}
 use Rattle.rule.specs.Refusal.{badItems, badBidders}
 use Rattle.sheet.specs.BidSheet.{itemsIn, biddersIn}
-use Rattle.lines.proofs.Walking.{was-number, was-nothing}
+use Rattle.digits.proofs.Walking.{was-number, was-nothing}
 use Rattle.sheet.proofs.Order.{no-items, no-bidders, bad-items, bad-bidders}
 use Rattle.sheet.proofs.Ends.{turned-down}
 use Rattle.sheet.proofs.close.Statement.{statement}

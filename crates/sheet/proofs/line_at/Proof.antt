@@ -8,10 +8,11 @@ use native.Mathlib.Numerals.{add-one}
 use lib.ListN.{length, set, take, length-set}
 use lib.Seq.{take-all, take-suc-set}
 use borrow.Author.Needs.{needs}
-use Rattle.lines.specs.Reading.{numberAt, numbersAt}
-use Rattle.lines.proofs.Lengths.{hex-length}
-use Rattle.lines.proofs.Numbers.{number-read}
-use Rattle.lines.proofs.Walking.{was-number, was-nothing}
+use Rattle.digits.specs.Reading.{numberAt}
+use Rattle.lines.specs.Reading.{numbersAt}
+use Rattle.digits.proofs.Digits.{hex-length}
+use Rattle.digits.proofs.Numbers.{number-read}
+use Rattle.digits.proofs.Walking.{was-number, was-nothing}
 use Rattle.sheet.proofs.Ahead.{ahead, ahead-none, numbers-stop, numbers-step, numbers-done, no-line, line-by-end}
 use Rattle.sheet.proofs.line_at.Statement.{statement}
 use Rattle.sheet.proofs.line_at.Tie as tie

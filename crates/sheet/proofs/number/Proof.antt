@@ -1,4 +1,4 @@
--- `sheet::number` meets its contract: a walk of its MIR, by hand. The struct is taken apart, and `lines::number_at` is called on the slice and the number. All that the proof knows of `lines::number_at` is that it meets its contract.
+-- `sheet::number` meets its contract: a walk of its MIR, by hand. The struct is taken apart, and `digits::number_at` is called on the slice and the number. All that the proof knows of `digits::number_at` is that it meets its contract.
 -- The struct is Copy: what it owns is had twice, one copy is kept whole for the exit, and of the other what src owns goes to the callee, beside the lifetime's token, which comes back.
 -- Assumes nothing.
 use mathlib.Core.Path.{_≡_, refl}
@@ -43,14 +43,14 @@ use denote.Triple.Table.{entered, cited}
 use denote.Triple.Walked.{says, Stays, stay-none, walkOf, goes-none, Walks, ends-at, walked, walk-meets}
 use denote.Exit.{yes}
 use denote.Triple.Clauses.{ensured, lasts}
-use Rattle.lines.specs.Reading.{numberIn, asNumber}
-use Rattle.lines.specs.declared.Number.{Number}
-use Rattle.lines.proofs.Number as S
-use Rattle.lines.proofs.Number.Laws as S′
-use Rattle.lines.proofs.number_at as number-at
-use Rattle.lines.proofs.number_at.Symbol as number-at-def
-use Rattle.lines.proofs.number_at.Symbol.{name as #number-at}
-use Rattle.lines.proofs.number_at.Met as number-at-thm
+use Rattle.digits.specs.Reading.{numberIn, asNumber}
+use Rattle.digits.specs.declared.Number.{Number}
+use Rattle.digits.proofs.Number as S
+use Rattle.digits.proofs.Number.Laws as S′
+use Rattle.digits.proofs.number_at as number-at
+use Rattle.digits.proofs.number_at.Symbol as number-at-def
+use Rattle.digits.proofs.number_at.Symbol.{name as #number-at}
+use Rattle.digits.proofs.number_at.Met as number-at-thm
 use Rattle.sheet.specs.declared.Reader.{Reader}
 use Rattle.sheet.proofs.Reader as T
 use Rattle.sheet.proofs.Reader.Laws as T′
@@ -167,4 +167,4 @@ number-spec 𝓤 H 𝓜 𝓖 𝓡 =
     entered 𝓤 H (tripleOf 𝓤 H (𝓖 .A) number.signature (number.spec 𝓤 H (𝓖 .A) (𝓜 .mem) (𝓡 .run)))
     (tables 𝓤 H 𝓜 𝓡 code.env .C) (tables 𝓤 H 𝓜 𝓡 code.env .Λ) #number code.function (code.unfolded 𝓤 H 𝓜 𝓡)
     (meets 𝓤 H (𝓖 .A) (givenOf 𝓤 H 𝓜 𝓖) (𝓜 .mem) (𝓡 .run) (tablesOf 𝓤 H 𝓜 (tables 𝓤 H 𝓜 𝓡 code.env))
-    (cited 𝓤 H (NumberAt 𝓤 H (𝓖 .A) (𝓜 .mem) (𝓡 .run)) 𝓜 𝓡 code.env #number-at number-at-def.routine code.calls-lines·number-at (number-at-thm.met 𝓤 H 𝓜 𝓖 𝓡)))
+    (cited 𝓤 H (NumberAt 𝓤 H (𝓖 .A) (𝓜 .mem) (𝓡 .run)) 𝓜 𝓡 code.env #number-at number-at-def.routine code.calls-digits·number-at (number-at-thm.met 𝓤 H 𝓜 𝓖 𝓡)))

@@ -5,8 +5,9 @@ use mathlib.Core.List.{List, [], _∷_}
 use native.Mathlib.Omega.{arith}
 use lib.ListN.{length, set, length-set}
 use borrow.Author.Needs.{needs}
-use Rattle.lines.specs.Lines.{digit, newline, writtenTo}
-use Rattle.lines.proofs.Digits.{digit-low}
+use Rattle.digits.specs.Digits.{digit}
+use Rattle.lines.specs.Lines.{newline, writtenTo}
+use Rattle.digits.proofs.Digits.{digit-low}
 use Rattle.lines.proofs.Stores.{sets-front}
 use Rattle.sheet.specs.Close.{refusalLine}
 use Rattle.sheet.proofs.put_refusal.Statement.{statement}

@@ -39,10 +39,10 @@ use denote.Triple.Table.{entered, cited}
 use denote.Triple.Walked.{says, needs, Stays, stay-none, stay-none-slice, walkOf, goes-none, goes-none-slice, Walks, ends-at, walked, walk-meets}
 use denote.Exit.{yes}
 use denote.Triple.Clauses.{ensured, lasts}
-use Rattle.lines.specs.Reading.{numberIn, asNumber}
-use Rattle.lines.specs.declared.Number.{Number}
-use Rattle.lines.proofs.Number as S
-use Rattle.lines.proofs.Number.Laws as S′
+use Rattle.digits.specs.Reading.{numberIn, asNumber}
+use Rattle.digits.specs.declared.Number.{Number}
+use Rattle.digits.proofs.Number as S
+use Rattle.digits.proofs.Number.Laws as S′
 use Rattle.sheet.specs.declared.Reader.{Reader}
 use Rattle.sheet.proofs.Reader as T
 use Rattle.sheet.proofs.Reader.Laws as T′

@@ -1,9 +1,9 @@
--- `lines::digit` meets its contract. Assumes nothing.
+-- `digits::digit` meets its contract. Assumes nothing.
 use mathlib.Core.Path.{sym}
 use borrow.Author.Needs.{needs}
-use Rattle.lines.proofs.Digits.{digit-low, digit-high}
-use Rattle.lines.proofs.digit.Statement.{statement}
-use Rattle.lines.proofs.digit.Tie as tie
+use Rattle.digits.proofs.Digits.{digit-low, digit-high}
+use Rattle.digits.proofs.digit.Statement.{statement}
+use Rattle.digits.proofs.digit.Tie as tie
 
 add-result : tie.Need-add-result
 add-result c = search needs

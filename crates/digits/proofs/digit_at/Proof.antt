@@ -1,13 +1,13 @@
--- `lines::digit_at` meets its contract. Assumes nothing.
+-- `digits::digit_at` meets its contract. Assumes nothing.
 use Prim.Native.Nat.{ℕ, _+_, _≤_}
 use mathlib.Core.Path.{sym, ap, _∙_}
 use mathlib.Core.Option.{Option, Option·getD}
 use native.Mathlib.Omega.{arith}
 use lib.ListN.{length}
 use borrow.Author.Needs.{needs}
-use Rattle.lines.proofs.Walking.{digit-there, digit-beyond}
-use Rattle.lines.proofs.digit_at.Statement.{statement}
-use Rattle.lines.proofs.digit_at.Tie as tie
+use Rattle.digits.proofs.Walking.{digit-there, digit-beyond}
+use Rattle.digits.proofs.digit_at.Statement.{statement}
+use Rattle.digits.proofs.digit_at.Tie as tie
 
 returns : tie.Need-returns
 returns c =

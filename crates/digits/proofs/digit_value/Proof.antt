@@ -1,12 +1,12 @@
--- `lines::digit_value` meets its contract. Assumes nothing.
+-- `digits::digit_value` meets its contract. Assumes nothing.
 use Prim.Native.Nat.{ℕ, _+_, _-_, _≤_}
 use mathlib.Core.Path.{_≡_, sym, ap, _∙_}
 use mathlib.Core.Option.{Option, Option·getD}
 use native.Mathlib.Omega.{arith}
 use borrow.Author.Needs.{needs}
-use Rattle.lines.proofs.Digits.{decimal, letter, below, between, above}
-use Rattle.lines.proofs.digit_value.Statement.{statement}
-use Rattle.lines.proofs.digit_value.Tie as tie
+use Rattle.digits.proofs.Digits.{decimal, letter, below, between, above}
+use Rattle.digits.proofs.digit_value.Statement.{statement}
+use Rattle.digits.proofs.digit_value.Tie as tie
 
 -- what a reading is, so is what it gives, or 16
 read : {o p : Option ℕ} → o ≡ p → Option·getD p 16 ≡ Option·getD o 16

@@ -1,17 +1,25 @@
--- `lines::put_number` meets its contract: what is left to write, written to the bytes as they are, makes the same bytes at each turn. Assumes nothing.
+-- `digits::put_number` meets its contract: what is left to write, written to the bytes as they are, makes the same bytes at each turn. Assumes nothing.
 use Prim.Native.Nat.{ℕ, zero, suc, _+_, _-_, _/_, _%_, _≤_, _<_}
 use mathlib.Core.Path.{_≡_, refl, sym, ap, _∙_}
-use mathlib.Core.List.{List}
+use mathlib.Core.List.{List, [], _∷_, _++_}
 use native.Mathlib.Omega.{arith}
-use native.Mathlib.Nat.{lt-irrefl}
+use native.Mathlib.Nat.{add-zero, lt-irrefl}
 use lib.ListN.{length, set, length-set}
-use lib.Seq.{sets}
+use lib.Seq.{sets, set-comm}
 use borrow.Author.Needs.{needs}
-use Rattle.lines.specs.Lines.{digit, hex}
-use Rattle.lines.proofs.Stores.{sets-last}
-use Rattle.lines.proofs.Lengths.{hex-length}
-use Rattle.lines.proofs.put_number.Statement.{statement}
-use Rattle.lines.proofs.put_number.Tie as tie
+use Rattle.digits.specs.Digits.{digit, hex}
+use Rattle.digits.proofs.Digits.{hex-length}
+use Rattle.digits.proofs.put_number.Statement.{statement}
+use Rattle.digits.proofs.put_number.Tie as tie
+
+-- the last of a run may be stored first
+sets-last : (l : List ℕ) (i : ℕ) (vs : List ℕ) (v : ℕ) → sets l i (vs ++ v ∷ []) ≡ sets (set l (i + length vs) v) i vs
+sets-last l i [] v = ap (λ (k : ℕ). set l k v) (sym (add-zero i))
+sets-last l i (a ∷ vs) v =
+    let e : suc i + length vs ≡ i + suc (length vs) = omega arith in
+    sets-last (set l i a) (suc i) vs v
+    ∙ ap (λ (k : ℕ). sets (set (set l i a) k v) (suc i) vs) e
+    ∙ ap (λ (r : List ℕ). sets r (suc i) vs) (set-comm l i (i + suc (length vs)) a v (omega arith))
 
 -- the last of k digits is stored, and those before it are left
 step : (l : List ℕ) (at k x : ℕ) → 0 < k → sets (set l (at + (k - 1)) (digit (x % 16))) at (hex (k - 1) (x / 16)) ≡ sets l at (hex k x)

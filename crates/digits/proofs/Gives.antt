@@ -7,10 +7,10 @@ use native.Mathlib.Omega.{arith}
 use native.Mathlib.Nat.{add-zero}
 use native.Mathlib.Decide.{decLt}
 use lib.ListN.{length, getD, getElem?}
-use Rattle.lines.specs.Lines.{digit}
-use Rattle.lines.specs.Reading.{_>>=_, digitValue, digitAt}
-use Rattle.lines.proofs.Digits.{decimal, letter, below, between, above, digit-low, digit-high}
-use Rattle.lines.proofs.Stands.{Stands, there, beyond, one}
+use Rattle.digits.specs.Digits.{digit}
+use Rattle.digits.specs.Reading.{_>>=_, digitValue, digitAt}
+use Rattle.digits.proofs.Digits.{decimal, letter, below, between, above, digit-low, digit-high}
+use Rattle.digits.proofs.Stands.{Stands, there, beyond, one}
 
 -- ---- two readings, one after the other
 

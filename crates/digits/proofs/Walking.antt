@@ -10,10 +10,10 @@ use native.Mathlib.Numerals.{add-one}
 use native.Mathlib.Decide.{ℕ-discrete}
 use lib.ListN.{length, getD, getElem?}
 use borrow.Author.Tests.{le-leb, lt-leb}
-use Rattle.lines.specs.declared.Number.the-variants.{Is, Nothing}
-use Rattle.lines.specs.Reading.{_>>=_, digitValue, digitAt, numberAt, numberIn, asNumber}
-use Rattle.lines.proofs.Stands.{there, beyond}
-use Rattle.lines.proofs.Gives.{gives, digit-read}
+use Rattle.digits.specs.declared.Number.the-variants.{Is, Nothing}
+use Rattle.digits.specs.Reading.{_>>=_, digitValue, digitAt, numberAt, numberIn, asNumber}
+use Rattle.digits.proofs.Stands.{there, beyond}
+use Rattle.digits.proofs.Gives.{gives, digit-read}
 
 -- ---- a digit
 

@@ -1,4 +1,4 @@
--- `lines::write_number` meets its contract. Assumes nothing.
+-- `digits::write_number` meets its contract. Assumes nothing.
 use Prim.Native.Nat.{ℕ, _+_}
 use mathlib.Core.List.{List}
 use native.Mathlib.Omega.{arith}
@@ -7,10 +7,10 @@ use lib.ListN.{length}
 use lib.Seq.{sets}
 use borrow.Author.Needs.{needs}
 use borrow.Author.Tests.{le-leb, lt-leb}
-use Rattle.lines.specs.Lines.{hex}
-use Rattle.lines.proofs.Written.{left, done}
-use Rattle.lines.proofs.write_number.Statement.{statement}
-use Rattle.lines.proofs.write_number.Tie as tie
+use Rattle.digits.specs.Digits.{hex}
+use Rattle.digits.proofs.Room.{left, done}
+use Rattle.digits.proofs.write_number.Statement.{statement}
+use Rattle.digits.proofs.write_number.Tie as tie
 
 returns : tie.Need-returns
 returns c =

@@ -1,11 +1,13 @@
--- What each byte is worth as a digit; a digit's byte is worth the digit, and no other byte is. Assumes nothing.
-use Prim.Native.Nat.{ℕ, _+_, _-_, _≤_, _<_}
-use mathlib.Core.Path.{_≡_}
+-- What each byte is worth as a digit, the byte of a digit, and how many digits there are. Assumes nothing.
+use Prim.Native.Nat.{ℕ, zero, suc, _+_, _-_, _/_, _%_, _≤_, _<_}
+use mathlib.Core.Path.{_≡_, refl}
+use mathlib.Core.List.{[], _∷_}
 use mathlib.Core.Option.{none, some}
 use native.Mathlib.Omega.{arith}
+use lib.ListN.{length, length-append}
 use borrow.Author.Tests.{lt-ltb, le-ltb, le-leb, lt-leb}
-use Rattle.lines.specs.Lines.{digit}
-use Rattle.lines.specs.Reading.{digitValue}
+use Rattle.digits.specs.Digits.{digit, hex}
+use Rattle.digits.specs.Reading.{digitValue}
 
 pub decimal : (b : ℕ) → 48 ≤ b → b ≤ 57 → digitValue b ≡ some (b - 48)
 unfolding digitValue
@@ -35,3 +37,8 @@ digit-low d h = simp (lt-ltb d 10 h)
 pub digit-high : (d : ℕ) → 10 ≤ d → digit d ≡ 87 + d
 unfolding digit
 digit-high d h = simp (le-ltb d 10 h)
+
+pub hex-length : (n x : ℕ) → length (hex n x) ≡ n
+unfolding hex
+hex-length zero x = refl
+hex-length (suc n) x = omega (arith, length-append (hex n (x / 16)) (digit (x % 16) ∷ []), hex-length n (x / 16))

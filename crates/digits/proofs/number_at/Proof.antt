@@ -1,13 +1,13 @@
--- `lines::number_at` meets its contract. Assumes nothing.
+-- `digits::number_at` meets its contract. Assumes nothing.
 use Prim.Native.Nat.{ℕ, _+_, _-_, _^_, _≤_, _<_}
 use mathlib.Core.Path.{_≡_, sym, ap, _∙_}
 use mathlib.Core.Option.{some}
 use native.Mathlib.Omega.{arith}
 use borrow.Author.Needs.{needs}
-use Rattle.lines.specs.Reading.{numberAt, asNumber}
-use Rattle.lines.proofs.Walking.{is-digit, no-digit, number-none, number-more, number-stops, many-digits, few-digits, one-more-digit, within-digits}
-use Rattle.lines.proofs.number_at.Statement.{statement}
-use Rattle.lines.proofs.number_at.Tie as tie
+use Rattle.digits.specs.Reading.{numberAt, asNumber}
+use Rattle.digits.proofs.Walking.{is-digit, no-digit, number-none, number-more, number-stops, many-digits, few-digits, one-more-digit, within-digits}
+use Rattle.digits.proofs.number_at.Statement.{statement}
+use Rattle.digits.proofs.number_at.Tie as tie
 
 abbrev Inv-loop : tie.InvT-loop
 Inv-loop s at digits x₀ k₀ x k = (numberAt k s at ≡ some x) × (x < 16 ^ k) × (k ≤ digits) × (digits ≤ 8)

@@ -1,0 +1,6 @@
+pub mod Digits
+pub mod Stands
+pub mod Gives
+pub mod Numbers
+pub mod Walking
+pub mod Room
