@@ -38,14 +38,13 @@ module _ (m n ups downs : ℕ) (prices options out : List ℕ) where
   unfolding afterClosing
   changed e = ap (λ (t : Bool). cond t (writtenTo out (closingSheet m n ups downs prices options)) out) (sym e)
 
-  -- out with the first line is a, with the first two b, with all three c; the third stands right behind the second
-  pub three-lines : (a b c : List ℕ) (at : ℕ) → m ≤ 32 → n ≤ 64 → closingLength m n ≤ length out
+  -- out with the first line is a, with the first two b, with all three c
+  pub three-lines : (a b c : List ℕ) → m ≤ 32 → n ≤ 64 → closingLength m n ≤ length out
       → a ≡ sets out 0 (hex 6 ups ++ hex 6 downs ++ newline)
       → b ≡ sets a 13 (joined m (λ k. hex 4 (getD prices k 0)) ++ newline)
-      → c ≡ sets b at (joined n (λ x. hex 2 (getD options x 0)) ++ newline)
-      → at ≡ 14 + 4 * m
+      → c ≡ sets b (14 + 4 * m) (joined n (λ x. hex 2 (getD options x 0)) ++ newline)
       → c ≡ afterClosing m n ups downs prices options out
-  three-lines a b c at l k h e f g q =
+  three-lines a b c l k h e f g =
       let first : List ℕ = hex 6 ups ++ hex 6 downs ++ newline in
       let second : List ℕ = joined m (λ k. hex 4 (getD prices k 0)) ++ newline in
       let third : List ℕ = joined n (λ x. hex 2 (getD options x 0)) ++ newline in
@@ -55,7 +54,6 @@ module _ (m n ups downs : ℕ) (prices options out : List ℕ) where
       let fits : length (closingSheet m n ups downs prices options) ≤ length out = omega (arith, closing-length m n ups downs prices options) in
       let two : b ≡ sets out 0 (first ++ second) = f ∙ ap (λ (r : List ℕ). sets r 13 second) e ∙ sets-then out 0 13 first second i in
       g
-      ∙ ap (λ (i : ℕ). sets b i third) q
       ∙ ap (λ (r : List ℕ). sets r (14 + 4 * m) third) two
       ∙ sets-then out 0 (14 + 4 * m) (first ++ second) third j
       ∙ ap (λ (vs : List ℕ). sets out 0 vs) (sym (by-lines m n ups downs prices options))

@@ -84,15 +84,14 @@ pub fn write_closing(
     if 64 < bidders {
         return false;
     }
-    let long = closing_length(items, bidders);
-    if out.len() < long {
+    if out.len() < closing_length(items, bidders) {
         return false;
     }
     let m = items as usize;
     let n = bidders as usize;
     put_rounds(out, raised, lowered);
     put_prices(out, 13, m, prices);
-    put_options(out, long - (2 * n + 1), n, options);
+    put_options(out, 14 + 4 * m, n, options);
     true
 }
 

@@ -48,10 +48,6 @@ mul-put-options c = search needs
 add-put-options : tie.Need-add-put-options
 add-put-options c = search needs
 
-sub-put-options : tie.Need-sub-put-options
-unfolding closingLength
-sub-put-options c = omega arith
-
 put-options-requires : tie.Need-put-options-requires
 unfolding closingLength
 put-options-requires c κs = omega arith
@@ -60,7 +56,6 @@ same-length : tie.Need-same-length
 same-length c = search needs
 
 returns-4 : tie.Need-returns-4
-unfolding closingLength
 returns-4 c =
     let tested = c .before .before .before .before .before .before .before .before .before .before .before .before in
     let a = tested .before .before .before .before .before .args in
@@ -72,8 +67,8 @@ returns-4 c =
     let h : closingLength (a .items) (a .bidders) ≤ length (a .out .now) =
     subst (λ (k : ℕ). k ≤ length (a .out .now)) (tested .before .closing-length .ensures) (tested .if3 .left) in (
       sym (enough (a .items) (a .bidders) (length (a .out .now)) l k h),
-      three-lines (a .items) (a .bidders) (a .raised) (a .lowered) (a .prices .now) (a .options .now) (a .out .now) (first .last .0) (second .last .0) (third .last .0) _
-          l k h (first .ensures) (second .ensures) (third .ensures) (omega arith),
+      three-lines (a .items) (a .bidders) (a .raised) (a .lowered) (a .prices .now) (a .options .now) (a .out .now) (first .last .0) (second .last .0) (third .last .0)
+          l k h (first .ensures) (second .ensures) (third .ensures),
     )
 
 pub write-closing-spec : {M : Type 1} → statement M
@@ -88,7 +83,6 @@ write-closing-spec =
     put-prices-requires
     mul-put-options
     add-put-options
-    sub-put-options
     put-options-requires
     same-length
     returns-4)
