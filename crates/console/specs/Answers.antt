@@ -4,7 +4,8 @@ use mathlib.Core.List.{List, [], _∷_, _++_}
 use lib.ListN.{replicate}
 use Rattle.rule.specs.Round.{Round, raised, lowered, closed}
 use Rattle.lines.specs.Lines.{hex, newline, pricesLine}
-use Rattle.live.specs.Calls.{saying, openAuction, report, clear, Ending, gives, refused, endAnswer, endNext}
+use Rattle.reports.specs.Report.{saying}
+use Rattle.live.specs.Calls.{openAuction, report, clear, Ending, gives, refused, endAnswer, endNext}
 use Rattle.live.specs.Reading.{readNumber, sheetOf}
 use Rattle.live.specs.declared.Auction.{Auction}
 use Rattle.live.specs.declared.Reply.{Reply}
