@@ -21,7 +21,8 @@ use Rattle.rule.specs.Refusal.{Refusal, on, first, badItems, badBidders, badLen
 use Rattle.rule.proofs.Refusal.{passed, given}
 use Rattle.rule.proofs.Limits.{amount-beyond}
 use Rattle.lines.specs.Lines.{writtenTo}
-use Rattle.live.specs.Auction.{hasReported, unfit, missing, risingSet, wellFormed}
+use Rattle.reports.specs.Report.{unfit}
+use Rattle.live.specs.Auction.{hasReported, missing, risingSet, wellFormed}
 use Rattle.live.specs.Calls.{isClosed, isFalling, isRising, atTop, openNumber, zeros, opened, unopened, openAuction, reportNumber, withReport, report, clearNumber, cleared, clear, endNumber, roundBy, settled, gives, refused, endAnswer, endNext}
 use Rattle.live.specs.Reading.{readNumber, sheetOf, readBytes}
 use Rattle.live.specs.declared.Auction.{Auction}

@@ -17,8 +17,9 @@ use Rattle.rule.specs.Refusal.{first, badItems, badBidders, badLength, anyOver,
 use Rattle.digits.specs.Digits.{digit, hex}
 use Rattle.lines.specs.Lines.{newline, joined, closingSheet, closingLength, writtenTo}
 use Rattle.round.specs.Reports.{reports}
-use Rattle.live.specs.Auction.{place, hasReported, missing, isEmpty, beyond, unfit, reportsOf, aboveZero, risingSet, fallingSet, countsFit, pricesFit, unusedPrices, unusedPlaces, unusedBits, reportedFit, othersEmpty, roundsFit, closeFits, wellFormed}
-use Rattle.live.specs.Calls.{openNumber, opened, unopened, openAuction, saying, reportNumber, withReport, report, clearNumber, cleared, clear, atTop, endNumber, roundBy, settled, gives, refused, endAnswer, endNext}
+use Rattle.reports.specs.Report.{saying, isEmpty, beyond, unfit}
+use Rattle.live.specs.Auction.{place, hasReported, missing, reportsOf, aboveZero, risingSet, fallingSet, countsFit, pricesFit, unusedPrices, unusedPlaces, unusedBits, reportedFit, othersEmpty, roundsFit, closeFits, wellFormed}
+use Rattle.live.specs.Calls.{openNumber, opened, unopened, openAuction, reportNumber, withReport, report, clearNumber, cleared, clear, atTop, endNumber, roundBy, settled, gives, refused, endAnswer, endNext}
 use Rattle.agreement.specs.Calls.{reporting, ending, clearing, reading, Answer, told, ended, shown, call, run}
 use Rattle.agreement.specs.Machine.{begin, at, phaseOf, phase, doesStand, said, saidAll, isMissing, sameBool, sameDemand, standsAs, demandsStand, tells, machineReport, machineClear, machineReadNumber, sealedSheet, machineRead, machineEndNumber, next, turned, machineEnd, machine, MachineRan, ran, left, behind, machineRun}
 

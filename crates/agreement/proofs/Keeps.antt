@@ -5,17 +5,18 @@ use mathlib.Core.Bool.{Bool, true, false, _&&_, _||_, not}
 use mathlib.Core.List.{List}
 use native.Mathlib.Omega.{arith}
 use native.Mathlib.Decide.{ℕ-discrete}
-use lib.Dec.{eqb, leb}
+use lib.Dec.{eqb}
 use lib.ListN.{length, getD, set, replicate, getD-replicate}
 use lib.Seq.{getD-set-same, getD-set-other}
 use borrow.Author.Tests.{eq-eqb, ne-eqb}
-use Rattle.sets.specs.Count.{anyBelow}
 use Rattle.sets.specs.Bit.{has, setOf}
-use Rattle.sets.proofs.Counting.{and-left, and-right, or-right, any-use, is-false, not-both, not-is}
+use Rattle.sets.proofs.Counting.{and-left, or-right, not-both, not-is}
 use Rattle.sets.proofs.Members.{has-setOf, empty-has}
 use Rattle.rule.specs.Sheet.{amount}
 use Rattle.rule.specs.Demand.{Demand}
-use Rattle.live.specs.Auction.{place, hasReported, isEmpty, beyond, unfit, roundsFit, closeFits}
+use Rattle.reports.specs.Report.{isEmpty, beyond, unfit}
+use Rattle.reports.proofs.Laws.{empty-within}
+use Rattle.live.specs.Auction.{place, hasReported, roundsFit, closeFits}
 use Rattle.live.specs.Calls.{isClosed, withReport, cleared}
 use Rattle.live.specs.declared.Auction.{Auction}
 use Rattle.live.specs.declared.Phase.{Phase}
@@ -39,14 +40,7 @@ not-closed Closed q e = absurd (not-both true refl e)
 
 -- ---- the empty report
 
-pub beyond-empty : (m : ℕ) → beyond m (record { null = false; items = 0 }) ≡ false
-unfolding beyond
-beyond-empty m = is-false (anyBelow 32 (λ k. leb m k && has 0 (suc k))) (λ e. by (any-use 32 (λ k. leb m k && has 0 (suc k)) e))
-  where
-    by : (k : ℕ) × (k < 32) × (leb m k && has 0 (suc k) ≡ true) → ⊥
-    by (k, l, q) = not-both (has 0 (suc k)) (and-right (leb m k) (has 0 (suc k)) q) (empty-has (suc k))
-
--- a record without reports
+-- of a record without reports
 module _ (q : Auction) (no-sets : q .sets ≡ replicate 64 0) (no-nulls : q .nulls ≡ 0) (no-reported : q .reported ≡ 0) where
   empty-place : (k : ℕ) → k < 64 → place q k ≡ record { null = false; items = 0 }
   unfolding place
@@ -73,7 +67,7 @@ module _ (q : Auction) (no-sets : q .sets ≡ replicate 64 0) (no-nulls : q .nul
         price-max = range;
         unused-price = past;
         unused-place = λ k l h. (is-empty k l, none-reported (suc k));
-        within = λ k l. ap (beyond (q .items)) (empty-place k l) ∙ beyond-empty (q .items);
+        within = λ k l. empty-within (q .items) (place q k) (is-empty k l);
         reported-fit = λ k l h. absurd (not-both (hasReported q (suc k)) h (none-reported (suc k)));
         other-empty = λ k l h. is-empty k (omega arith);
         rounds = rounds;

@@ -16,7 +16,8 @@ use Rattle.rule.specs.Demand.{Demand}
 use Rattle.rule.specs.Refusal.{Refusal, on, first, badBidder}
 use Rattle.rule.proofs.Limits.{Limits}
 use Rattle.rule.proofs.Refusal.{passed}
-use Rattle.live.specs.Auction.{hasReported, unfit, wellFormed}
+use Rattle.reports.specs.Report.{unfit}
+use Rattle.live.specs.Auction.{hasReported, wellFormed}
 use Rattle.live.specs.Calls.{isClosed, reportNumber, withReport, report, clearNumber, cleared, clear}
 use Rattle.live.proofs.Parts.{by-parts}
 use Rattle.agreement.specs.Calls.{reporting, clearing, call}

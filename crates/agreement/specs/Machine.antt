@@ -13,7 +13,7 @@ use Rattle.rule.specs.Round.{Round, raised, lowered, closed, State, path, close
 use Rattle.rule.specs.Closing.{demandsAt, roundOf, assignmentAt}
 use Rattle.rule.specs.Refusal.{on, first, badBidder}
 use Rattle.lines.specs.Lines.{closingSheet, closingLength, writtenTo}
-use Rattle.live.specs.Auction.{unfit}
+use Rattle.reports.specs.Report.{unfit}
 use Rattle.live.specs.Calls.{isFalling, isRising, atTop, gives, refused}
 use Rattle.live.specs.declared.Phase.{Phase}
 use Rattle.live.specs.declared.Phase.the-variants.{Rising, Falling, Closed}

@@ -14,7 +14,8 @@ use Rattle.rule.specs.Refusal.{on, badItems, badBidders, badLength, anyOver}
 use Rattle.lines.specs.Lines.{writtenTo}
 use Rattle.digits.specs.Reading.{_>>=_, numberAt}
 use Rattle.lines.proofs.Stores.{sets-front}
-use Rattle.live.specs.Calls.{saying, openNumber, opened, unopened, openAuction, report, clear, endNumber, roundBy, settled, Ending, gives, refused, endAnswer, endNext}
+use Rattle.reports.specs.Report.{saying}
+use Rattle.live.specs.Calls.{openNumber, opened, unopened, openAuction, report, clear, endNumber, roundBy, settled, Ending, gives, refused, endAnswer, endNext}
 use Rattle.live.specs.declared.Auction.{Auction}
 use Rattle.live.specs.declared.Reply.{Reply}
 use Rattle.live.proofs.Formed.{in-range, formed}

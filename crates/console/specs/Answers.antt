@@ -5,7 +5,8 @@ use lib.ListN.{replicate}
 use Rattle.rule.specs.Round.{Round, raised, lowered, closed}
 use Rattle.digits.specs.Digits.{hex}
 use Rattle.lines.specs.Lines.{newline, pricesLine}
-use Rattle.live.specs.Calls.{saying, openAuction, report, clear, Ending, gives, refused, endAnswer, endNext}
+use Rattle.reports.specs.Report.{saying}
+use Rattle.live.specs.Calls.{openAuction, report, clear, Ending, gives, refused, endAnswer, endNext}
 use Rattle.live.specs.Reading.{readNumber, sheetOf}
 use Rattle.live.specs.declared.Auction.{Auction}
 use Rattle.live.specs.declared.Reply.{Reply}

@@ -1,18 +1,17 @@
 -- The ways of an end: its number, the round that the reports give, and what is handed back. Assumes nothing.
-use Prim.Native.Nat.{ℕ, zero, suc, _<_}
+use Prim.Native.Nat.{ℕ, zero, suc}
 use mathlib.Core.Path.{_≡_, refl, sym, ap, _∙_, subst}
 use mathlib.Core.Bool.{Bool, true, false, _&&_, not}
 use mathlib.Core.List.{List, [], _∷_}
 use lib.Dec.{eqb}
 use borrow.Author.Tests.{eq-eqb, ne-eqb}
 use Rattle.sets.specs.Bit.{has}
-use Rattle.sets.specs.Count.{anyBelow}
-use Rattle.sets.proofs.Counting.{is-false, not-both, and-left, any-use}
 use Rattle.sets.proofs.Members.{empty-has}
 use Rattle.rule.specs.Sheet.{amount}
 use Rattle.rule.specs.Round.{Round, raised, lowered, closed, round, roundFalling}
 use Rattle.rule.specs.Refusal.{on, first}
 use Rattle.rule.proofs.Refusal.{passed, given}
+use Rattle.reports.proofs.Laws.{any-false}
 use Rattle.live.specs.Auction.{missing, aboveZero, reportsOf, risingSet, fallingSet}
 use Rattle.live.specs.Calls.{isFalling, isRising, clearNumber, atTop, endNumber, ruled, roundBy, settled, gives, refused, endingOf, endAnswer, endNext}
 use Rattle.live.specs.Tidy.{Ready}
@@ -25,13 +24,7 @@ use Rattle.live.proofs.Refusing.{Stands, stops, later}
 -- the empty set has no item at 4,095
 empty-top : (m : ℕ) (p : List ℕ) → atTop m p 0 ≡ false
 unfolding atTop
-empty-top m p = is-false (anyBelow m test) (λ e. by (any-use m test e))
-  where
-    test : ℕ → Bool
-    test k = has 0 (suc k) && eqb (amount p (suc k)) 4095
-
-    by : (k : ℕ) × (k < m) × (has 0 (suc k) && eqb (amount p (suc k)) 4095 ≡ true) → ⊥
-    by (k, l, e) = not-both (has 0 (suc k)) (and-left (has 0 (suc k)) (eqb (amount p (suc k)) 4095) e) (empty-has (suc k))
+empty-top m p = any-false m (λ k. has 0 (suc k) && eqb (amount p (suc k)) 4095) (λ k l. rw (empty-has (suc k)) refl)
 
 module _ (r : Auction) where
   -- ---- the number

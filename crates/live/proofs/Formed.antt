@@ -12,7 +12,8 @@ use Rattle.sets.specs.Count.{_⇒_, anyBelow}
 use Rattle.sets.proofs.Counting.{and-left, and-right, and-both, all-use, all-make, any-use, any-make, imp-use, imp-make, is-false, not-both, not-is}
 use Rattle.rule.specs.Sheet.{amount}
 use Rattle.rule.specs.Refusal.{badItems, badBidders, anyOver}
-use Rattle.live.specs.Auction.{place, hasReported, isEmpty, beyond, unfit, countsFit, pricesFit, unusedPrices, unusedPlaces, unusedBits, reportedFit, othersEmpty, roundsFit, closeFits, wellFormed}
+use Rattle.reports.specs.Report.{isEmpty, beyond, unfit}
+use Rattle.live.specs.Auction.{place, hasReported, countsFit, pricesFit, unusedPrices, unusedPlaces, unusedBits, reportedFit, othersEmpty, roundsFit, closeFits, wellFormed}
 use Rattle.live.specs.Tidy.{Tidy}
 use Rattle.live.specs.declared.Auction.{Auction}
 
@@ -157,7 +158,7 @@ module _ (r : Auction) where
       eqb-true (amount (r .prices) (suc k)) 0
       (imp-use (leb (r .items) k) (eqb (amount (r .prices) (suc k)) 0) (all-use 32 (λ k. leb (r .items) k ⇒ eqb (amount (r .prices) (suc k)) 0) e k l) (le-leb (r .items) k h))
 
-  past-items-make : ((k : ℕ) → k < 32 → r .items ≤ k → amount (r .prices) (suc k) ≡ 0) → unusedPrices r ≡ true
+  pub past-items-make : ((k : ℕ) → k < 32 → r .items ≤ k → amount (r .prices) (suc k) ≡ 0) → unusedPrices r ≡ true
   unfolding unusedPrices
   past-items-make f =
       all-make 32 (λ k. leb (r .items) k ⇒ eqb (amount (r .prices) (suc k)) 0)
@@ -174,7 +175,7 @@ module _ (r : Auction) where
         not-is (hasReported r (suc k)) (and-right (isEmpty (place r k)) (not (hasReported r (suc k))) q),
       )
 
-  past-bidders-make : ((k : ℕ) → k < 64 → r .bidders ≤ k → (isEmpty (place r k) ≡ true) × (hasReported r (suc k) ≡ false)) → unusedPlaces r ≡ true
+  pub past-bidders-make : ((k : ℕ) → k < 64 → r .bidders ≤ k → (isEmpty (place r k) ≡ true) × (hasReported r (suc k) ≡ false)) → unusedPlaces r ≡ true
   unfolding unusedPlaces
   past-bidders-make f =
       all-make 64 (λ k. leb (r .bidders) k ⇒ vacant k)
@@ -185,28 +186,28 @@ module _ (r : Auction) where
   unfolding unusedBits
   bits-use e k l = not-is (beyond (r .items) (place r k)) (all-use 64 (λ k. not (beyond (r .items) (place r k))) e k l)
 
-  bits-make : ((k : ℕ) → k < 64 → beyond (r .items) (place r k) ≡ false) → unusedBits r ≡ true
+  pub bits-make : ((k : ℕ) → k < 64 → beyond (r .items) (place r k) ≡ false) → unusedBits r ≡ true
   unfolding unusedBits
   bits-make f = all-make 64 (λ k. not (beyond (r .items) (place r k))) (λ k l. ap not (f k l))
 
-  reported-use : reportedFit r ≡ true → (k : ℕ) → k < r .bidders → hasReported r (suc k) ≡ true → unfit (r .items) (place r k) ≡ false
+  pub reported-use : reportedFit r ≡ true → (k : ℕ) → k < r .bidders → hasReported r (suc k) ≡ true → unfit (r .items) (place r k) ≡ false
   unfolding reportedFit
   reported-use e k l h =
       not-is (unfit (r .items) (place r k))
       (imp-use (hasReported r (suc k)) (not (unfit (r .items) (place r k))) (all-use (r .bidders) (λ k. hasReported r (suc k) ⇒ not (unfit (r .items) (place r k))) e k l) h)
 
-  reported-make : ((k : ℕ) → k < r .bidders → hasReported r (suc k) ≡ true → unfit (r .items) (place r k) ≡ false) → reportedFit r ≡ true
+  pub reported-make : ((k : ℕ) → k < r .bidders → hasReported r (suc k) ≡ true → unfit (r .items) (place r k) ≡ false) → reportedFit r ≡ true
   unfolding reportedFit
   reported-make f =
       all-make (r .bidders) (λ k. hasReported r (suc k) ⇒ not (unfit (r .items) (place r k)))
       (λ k l. imp-make (hasReported r (suc k)) (not (unfit (r .items) (place r k))) (λ h. ap not (f k l h)))
 
-  others-use : othersEmpty r ≡ true → (k : ℕ) → k < r .bidders → hasReported r (suc k) ≡ false → isEmpty (place r k) ≡ true
+  pub others-use : othersEmpty r ≡ true → (k : ℕ) → k < r .bidders → hasReported r (suc k) ≡ false → isEmpty (place r k) ≡ true
   unfolding othersEmpty
   others-use e k l h =
       imp-use (not (hasReported r (suc k))) (isEmpty (place r k)) (all-use (r .bidders) (λ k. not (hasReported r (suc k)) ⇒ isEmpty (place r k)) e k l) (ap not h)
 
-  others-make : ((k : ℕ) → k < r .bidders → hasReported r (suc k) ≡ false → isEmpty (place r k) ≡ true) → othersEmpty r ≡ true
+  pub others-make : ((k : ℕ) → k < r .bidders → hasReported r (suc k) ≡ false → isEmpty (place r k) ≡ true) → othersEmpty r ≡ true
   unfolding othersEmpty
   others-make f =
       all-make (r .bidders) (λ k. not (hasReported r (suc k)) ⇒ isEmpty (place r k))

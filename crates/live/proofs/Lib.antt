@@ -1,9 +1,8 @@
-pub mod Loops
-pub mod Unused
 pub mod Parts
 pub mod Opening
 pub mod Phases
 pub mod Formed
+pub mod Places
 pub mod Refusing
 pub mod Ending
 pub mod Bounds

@@ -9,7 +9,8 @@ use borrow.Author.Tests.{lt-ltb, le-ltb, not-false}
 use Rattle.rule.specs.Demand.{Demand}
 use Rattle.rule.specs.Refusal.{Refusal, on, first, badBidder}
 use Rattle.rule.proofs.Refusal.{passed, given}
-use Rattle.live.specs.Auction.{hasReported, unfit, wellFormed}
+use Rattle.reports.specs.Report.{unfit}
+use Rattle.live.specs.Auction.{hasReported, wellFormed}
 use Rattle.live.specs.Calls.{isClosed, clearNumber, reportNumber}
 use Rattle.live.specs.declared.Auction.{Auction}
 use Rattle.live.specs.declared.Reply.{Reply}

@@ -20,7 +20,8 @@ use Rattle.round.specs.Reports.{reports, Reported}
 use Rattle.prices.specs.Prices.{raisePlaces}
 use Rattle.round.proofs.Narrowing.{positive-narrow, rising-narrow, falling-narrow}
 use Rattle.prices.proofs.Moving.{raise-room}
-use Rattle.live.specs.Auction.{place, isEmpty, beyond, aboveZero, reportsOf, risingSet, fallingSet, pricesFit}
+use Rattle.reports.specs.Report.{isEmpty, beyond}
+use Rattle.live.specs.Auction.{place, aboveZero, reportsOf, risingSet, fallingSet, pricesFit}
 use Rattle.live.specs.Tidy.{Tidy}
 use Rattle.live.specs.declared.Auction.{Auction}
 use Rattle.live.proofs.Formed.{items-range, bidders-range, prices-use, past-items-use, past-bidders-use, bits-use}

@@ -1,6 +1,6 @@
 -- The record and when it is well formed (number 11): document 01, "The live letting" and "Turned down by the state". Assumes nothing: these are definitions.
 use Prim.Native.Nat.{ℕ, suc, _+_, _*_}
-use mathlib.Core.Bool.{Bool, true, _&&_, _||_, not}
+use mathlib.Core.Bool.{Bool, true, _&&_, not}
 use mathlib.Core.List.{List}
 use lib.Dec.{leb, eqb}
 use lib.ListN.{getD}
@@ -11,6 +11,7 @@ use Rattle.rule.specs.Demand.{Demand}
 use Rattle.rule.specs.Excess.{excessDemand, excessSupply, positive}
 use Rattle.rule.specs.Refusal.{badItems, badBidders, anyOver}
 use Rattle.round.specs.Reports.{reports}
+use Rattle.reports.specs.Report.{isEmpty, beyond, unfit}
 use Rattle.live.specs.declared.Auction.{Auction}
 use Rattle.live.specs.declared.Phase.{Phase}
 use Rattle.live.specs.declared.Phase.the-variants.{Rising, Falling, Closed}
@@ -28,18 +29,6 @@ hasReported r b = has (r .reported) b
 -- a report is missing
 unfoldable pub missing : Auction → Bool
 missing r = anyBelow (r .bidders) λ k. not (hasReported r (suc k))
-
--- a report is empty if it says no and the set is empty
-unfoldable pub isEmpty : Demand → Bool
-isEmpty d = not (d .null) && eqb (d .items) 0
-
--- it holds an item beyond the count m
-unfoldable pub beyond : ℕ → Demand → Bool
-beyond m d = anyBelow 32 λ k. leb m k && has (d .items) (suc k)
-
--- 8: a report that is empty or holds an item beyond the count
-unfoldable pub unfit : ℕ → Demand → Bool
-unfit m d = isEmpty d || beyond m d
 
 -- ---- the two sets that the reports give
 

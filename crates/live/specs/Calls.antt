@@ -12,7 +12,8 @@ use Rattle.rule.specs.Demand.{Demand}
 use Rattle.rule.specs.Round.{rising, falling, Round, raised, lowered, closed, round, raise, lower}
 use Rattle.rule.specs.Round.{Phase as RulePhase}
 use Rattle.rule.specs.Refusal.{on, first, badItems, badBidders, badLength, anyOver, badBidder}
-use Rattle.live.specs.Auction.{reportsOf, hasReported, unfit, missing, aboveZero, risingSet, wellFormed}
+use Rattle.reports.specs.Report.{unfit}
+use Rattle.live.specs.Auction.{reportsOf, hasReported, missing, aboveZero, risingSet, wellFormed}
 use Rattle.live.specs.declared.Auction.{Auction}
 use Rattle.live.specs.declared.Phase.{Phase}
 use Rattle.live.specs.declared.Phase.the-variants.{Rising, Falling, Closed}
@@ -82,10 +83,6 @@ unfoldable pub openAuction : (items bidders : ℕ) (start : List ℕ) → Reply
 openAuction m n start = elim (openNumber m n start) [ zero ↦ record { number = 0; next = opened m n start } | suc j ↦ unopened (suc j) ]
 
 -- ---- report: 11, 12, 7, 13, 8
-
--- a report that says null yes or no, beside an item set
-unfoldable pub saying : (null : Bool) (items : ℕ) → Demand
-saying null items = record { null = null; items = items }
 
 unfoldable pub reportNumber : Auction → ℕ → Demand → ℕ
 reportNumber r bidder d =

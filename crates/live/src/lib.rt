@@ -1,19 +1,16 @@
 // The live auction (document 01: the live letting): the record, and what a call on it hands back.
 
 ghost use mathlib.Core.Path.{_≡_};
-ghost use mathlib.Core.Bool.{Bool, true, false, _&&_, _||_, not, cond};
-ghost use Prim.Native.Nat.{ℕ, suc, _+_, _*_, _≤_, _<_};
-ghost use mathlib.Core.List.{List};
-ghost use lib.Dec.{leb, ltb, eqb};
-ghost use lib.ListN.{length};
-ghost use Rattle.sets.specs.Count.{_⇒_, anyBelow};
-ghost use Rattle.sets.specs.Bit.{has, setOf};
+ghost use mathlib.Core.Bool.{true, _&&_, not, cond};
+ghost use Prim.Native.Nat.{_+_, _*_, _≤_, _<_};
+ghost use lib.Dec.{leb, eqb};
 ghost use Rattle.sets.specs.Lists.{places};
-ghost use Rattle.rule.specs.Sheet.{amount, priceSum};
+ghost use Rattle.rule.specs.Sheet.{priceSum};
 ghost use Rattle.rule.specs.Round.{raised, lowered, closed};
 ghost use Rattle.lines.specs.Lines.{writtenTo};
-ghost use Rattle.live.specs.Auction.{place, hasReported, isEmpty, beyond, unfit, countsFit, pricesFit, unusedPrices, unusedPlaces, unusedBits, reportedFit, othersEmpty, missing, roundsFit, closeFits, risingSet, fallingSet, wellFormed};
-ghost use Rattle.live.specs.Calls.{zeros, unopened, openAuction, cleared, withReport, saying, isClosed, reportNumber, report, clearNumber, clear, atTop, settled, endingOf, endAnswer, endNext};
+ghost use Rattle.reports.specs.Report.{saying};
+ghost use Rattle.live.specs.Auction.{countsFit, pricesFit, unusedPrices, roundsFit, closeFits, risingSet, fallingSet, wellFormed};
+ghost use Rattle.live.specs.Calls.{zeros, unopened, openAuction, cleared, withReport, isClosed, reportNumber, report, clearNumber, clear, atTop, settled, endingOf, endAnswer, endNext};
 ghost use Rattle.live.specs.declared.Phase.the-variants.{Rising, Falling};
 ghost use Rattle.live.specs.declared.Kind.the-variants.{Raised, Lowered};
 ghost use Rattle.live.specs.declared.Ended.the-variants.{Moved, Refused};
@@ -65,33 +62,6 @@ pub struct Reply {
 pub struct Step {
     pub ended: Ended,
     pub next: Auction,
-}
-
-// the set holds an item beyond the count
-fn holds_beyond(items: usize, set: u32) -> bool
-    ensures { λ r. ⌜ r ≡ anyBelow 32 (λ k. leb items k && has set (suc k)) ⌝ }
-{
-    let mut k = items;
-    while k < 32 {
-        if sets::has_item(set, k + 1) {
-            return true;
-        }
-        k += 1;
-    }
-    false
-}
-
-// number 8 refuses the report
-fn refuses(items: usize, null: bool, set: u32) -> bool
-    ensures { λ r. ⌜ r ≡ unfit items (saying null set) ⌝ }
-{
-    if holds_beyond(items, set) {
-        return true;
-    }
-    if null {
-        return false;
-    }
-    set == 0
 }
 
 // a price where a sum is made
@@ -218,71 +188,6 @@ impl Auction {
         true
     }
 
-    // reports, and bits of bidders, past the bidders
-    fn unused_places(self) -> bool
-        ensures { λ r. ⌜ r ≡ unusedPlaces self ⌝ }
-    {
-        let mut k = self.bidders;
-        while k < 64 {
-            if sets::has_bidder(self.nulls, k + 1) {
-                return false;
-            }
-            if self.sets[k] != 0 {
-                return false;
-            }
-            if sets::has_bidder(self.reported, k + 1) {
-                return false;
-            }
-            k += 1;
-        }
-        true
-    }
-
-    // bits of item sets past the items
-    fn unused_bits(self) -> bool
-        ensures { λ r. ⌜ r ≡ unusedBits self ⌝ }
-    {
-        let mut k: usize = 0;
-        while k < 64 {
-            if holds_beyond(self.items, self.sets[k]) {
-                return false;
-            }
-            k += 1;
-        }
-        true
-    }
-
-    // the report of bidder k + 1 is fit if they have reported, and empty if not
-    fn place_fits(self, k: usize) -> bool
-        requires { ⌜ k < 64 ⌝ }
-        ensures { λ r. ⌜ r ≡ (hasReported self (suc k) ⇒ not (unfit (self .items) (place self k))) && (not (hasReported self (suc k)) ⇒ isEmpty (place self k)) ⌝ }
-    {
-        let set = self.sets[k];
-        let null = sets::has_bidder(self.nulls, k + 1);
-        if sets::has_bidder(self.reported, k + 1) {
-            return !refuses(self.items, null, set);
-        }
-        if null {
-            return false;
-        }
-        set == 0
-    }
-
-    // not: the report of a bidder who has reported is one that 8 refuses; not: that of one who has not is not empty
-    fn reports_fit(self) -> bool
-        requires { ⌜ self .bidders ≤ 64 ⌝ }
-        ensures { λ r. ⌜ r ≡ reportedFit self && othersEmpty self ⌝ }
-    {
-        let mut k: usize = 0;
-        while k < self.bidders {
-            if !self.place_fits(k) {
-                return false;
-            }
-            k += 1;
-        }
-        true
-    }
-
     // the sum of the prices
     fn price_sum(self) -> u32
         requires { ⌜ self .items ≤ 32 ⌝ }
@@ -328,21 +233,6 @@ impl Auction {
         }
     }
 
-    // a report is missing
-    fn misses(self) -> bool
-        requires { ⌜ self .bidders ≤ 64 ⌝ }
-        ensures { λ r. ⌜ r ≡ missing self ⌝ }
-    {
-        let mut k: usize = 0;
-        while k < self.bidders {
-            if !sets::has_bidder(self.reported, k + 1) {
-                return true;
-            }
-            k += 1;
-        }
-        false
-    }
-
     // the rising set of the reports
     fn rising_set(self) -> u32
         requires { ⌜ Tidy self ⌝ }
@@ -382,7 +272,7 @@ impl Auction {
         if !self.is_closed() {
             return true;
         }
-        if self.misses() {
+        if reports::misses(self.bidders, self.reported) {
             return false;
         }
         if self.rising_set() != 0 {
@@ -404,13 +294,10 @@ impl Auction {
         if !self.unused_prices() {
             return false;
         }
-        if !self.unused_places() {
-            return false;
-        }
-        if !self.unused_bits() {
-            return false;
-        }
-        if !self.reports_fit() {
+        // the clauses on reports, place by place in one loop
+        let sets = self.sets;
+        let nulls = self.nulls;
+        if !reports::all_fit(self.items, self.bidders, &sets, nulls, self.reported) {
             return false;
         }
         if !self.rounds_fit() {
@@ -451,7 +338,7 @@ impl Auction {
         if sets::has_bidder(self.reported, bidder) {
             return 13;
         }
-        if refuses(self.items, null, set) {
+        if reports::refuses(self.items, null, set) {
             return 8;
         }
         0
@@ -639,7 +526,7 @@ impl Auction {
         if number != 0 {
             return self.stopped(number);
         }
-        if self.misses() {
+        if reports::misses(self.bidders, self.reported) {
             return self.stopped(14);
         }
         let set = self.rising_set();

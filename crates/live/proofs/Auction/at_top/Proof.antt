@@ -1,19 +1,19 @@
--- `live::Auction::at_top` meets its contract. Assumes nothing.
+-- `live::Auction::at_top` meets its contract. Of the items passed so far none in the set stands at 4,095. Assumes nothing.
 use mathlib.Core.Path.{_≡_, sym, ap, _∙_}
 use mathlib.Core.List.{List}
 use mathlib.Core.Bool.{Bool, false, _&&_}
-use Prim.Native.Nat.{ℕ, suc, _-_, _≤_}
+use Prim.Native.Nat.{ℕ, suc, _-_, _≤_, _<_}
 use native.Mathlib.Omega.{arith}
 use native.Mathlib.Numerals.{add-one}
 use lib.Dec.{eqb}
 use lib.ListN.{getD}
+use borrow.Author.Count.{below-none, below-more}
 use borrow.Author.Needs.{needs}
 use Rattle.sets.specs.Bit.{has}
-use Rattle.sets.specs.Count.{anyBelow}
 use Rattle.sets.proofs.Counting.{any-make}
 use Rattle.rule.specs.Sheet.{amount}
+use Rattle.reports.proofs.Laws.{any-false}
 use Rattle.live.specs.Calls.{atTop}
-use Rattle.live.proofs.Loops.{any-none, any-more}
 use Rattle.live.proofs.Auction.at_top.Statement.{statement}
 use Rattle.live.proofs.Auction.at_top.Tie as tie
 
@@ -21,13 +21,13 @@ abbrev topAt : List ℕ → ℕ → ℕ → Bool
 topAt prices set k = has set (suc k) && eqb (amount prices (suc k)) 4095
 
 abbrev Inv-loop : tie.InvT-loop
-Inv-loop set self k₀ k = (anyBelow k (topAt (self .prices) set) ≡ false) × (k ≤ self .items) × (self .items ≤ 32)
+Inv-loop set self k₀ k = (k ≤ self .items) × (self .items ≤ 32) × ((j : ℕ) → j < k → topAt (self .prices) set j ≡ false)
 
 abbrev μ-loop : tie.MeasureT-loop
 μ-loop set self k₀ k = self .items - k
 
 loop-holds : tie.Need-loop-holds Inv-loop μ-loop
-loop-holds c = (any-none (topAt (c .args .t1 .prices) (c .args .set)), omega arith, c .pre)
+loop-holds c = (omega arith, c .pre, below-none _)
 
 add-has-item : tie.Need-add-has-item Inv-loop μ-loop
 add-has-item c = search needs
@@ -62,15 +62,14 @@ unfolding amount
 loop-again c =
     let at = c .before .before .before .before .before .loop in
     let a = c .before .before .before .before .before .before .args in
-    (any-more (at .k) (topAt (a .t1 .prices) (a .set)) (at .inv .0) (sym (c .before .is-top .ensures ∙ ap (λ (b : Bool). b && eqb (getD (a .t1 .prices) (at .k) 0) 4095) (c .before .before .before .has-item .ensures ∙ ap (has (a .set)) (add-one (at .k)))) ∙ c .if1 .left), omega arith, at .inv .2)
+    (omega arith, at .inv .1, below-more _ (at .k) (at .inv .2) (sym (c .before .is-top .ensures ∙ ap (λ (b : Bool). b && eqb (getD (a .t1 .prices) (at .k) 0) 4095) (c .before .before .before .has-item .ensures ∙ ap (has (a .set)) (add-one (at .k)))) ∙ c .if1 .left))
 
 returns-2 : tie.Need-returns-2 Inv-loop μ-loop
 unfolding atTop
 returns-2 c =
     let at = c .before .loop in
     let a = c .before .before .args in
-    let e : at .k ≡ a .t1 .items = omega (arith, at .inv .1) in
-    sym (ap (λ (n : ℕ). anyBelow n (topAt (a .t1 .prices) (a .set))) (sym e) ∙ at .inv .0)
+    sym (any-false (a .t1 .items) (topAt (a .t1 .prices) (a .set)) (λ j l. at .inv .2 j (omega (arith, l, c .loop-test .left))))
 
 pub at-top-spec : {M : Type 1} → statement M
 at-top-spec =

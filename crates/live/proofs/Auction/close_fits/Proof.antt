@@ -6,8 +6,8 @@ use lib.Dec.{eqb}
 use borrow.Author.Tests.{ne-eqb, eq-eqb, not-true, not-false}
 use Rattle.live.specs.Auction.{missing, risingSet}
 use Rattle.live.specs.Calls.{isClosed}
-use Rattle.live.proofs.Formed.{bidders-range}
 use Rattle.live.proofs.Phases.{not-closed, closed-by}
+use Rattle.live.proofs.Places.{missing-is}
 use borrow.Author.Needs.{needs}
 use Rattle.live.proofs.Auction.close_fits.Statement.{statement}
 use Rattle.live.proofs.Auction.close_fits.Tie as tie
@@ -22,12 +22,12 @@ returns : tie.Need-returns
 returns c = not-closed (c .before .before .args .self) (sym (c .before .is-closed .ensures) ∙ not-true (c .before .is-closed .result) (c .if1 .taken))
 
 misses-requires : tie.Need-misses-requires
-misses-requires c κs = bidders-range (c .before .before .args .self) (c .before .before .pre .counts) .1
+misses-requires c κs = search needs
 
 returns-2 : tie.Need-returns-2
 returns-2 c =
     let r = c .before .before .before .before .args .self in
-    let m : missing r ≡ true = sym (c .before .misses .ensures) ∙ c .if2 .taken in
+    let m : missing r ≡ true = sym (c .before .misses .ensures ∙ missing-is r) ∙ c .if2 .taken in
     simp m at (closed-by r (closed (c .before .before)))
 
 rising-set-requires : tie.Need-rising-set-requires
@@ -36,7 +36,7 @@ rising-set-requires c κs = search needs
 returns-3 : tie.Need-returns-3
 returns-3 c =
     let r = c .before .before .before .before .before .before .args .self in
-    let m : missing r ≡ false = sym (c .before .before .before .misses .ensures) ∙ c .before .before .if2 .left in
+    let m : missing r ≡ false = sym (c .before .before .before .misses .ensures ∙ missing-is r) ∙ c .before .before .if2 .left in
     let s : eqb (risingSet r) 0 ≡ false = ap (λ (x : ℕ). eqb x 0) (sym (c .before .rising-set .ensures)) ∙ ne-eqb (c .before .rising-set .result) 0 (c .if3 .taken) in
     simp (m, s) at (closed-by r (closed (c .before .before .before .before)))
 
@@ -46,7 +46,7 @@ falling-set-requires c κs = search needs
 returns-4 : tie.Need-returns-4
 returns-4 c =
     let r = c .before .before .before .before .before .before .before .args .self in
-    let m : missing r ≡ false = sym (c .before .before .before .before .misses .ensures) ∙ c .before .before .before .if2 .left in
+    let m : missing r ≡ false = sym (c .before .before .before .before .misses .ensures ∙ missing-is r) ∙ c .before .before .before .if2 .left in
     let s : eqb (risingSet r) 0 ≡ true = ap (λ (x : ℕ). eqb x 0) (sym (c .before .before .rising-set .ensures)) ∙ eq-eqb (c .before .before .rising-set .result) 0 (c .before .if3 .left) in
     ap (λ (x : ℕ). eqb x 0) (c .falling-set .ensures) ∙ (simp (m, s) at (closed-by r (closed (c .before .before .before .before .before))))
 

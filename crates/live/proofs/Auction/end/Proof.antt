@@ -6,7 +6,8 @@ use borrow.Author.Tests.{eqb-false}
 use Rattle.live.specs.Calls.{isClosed, endingOf}
 use Rattle.live.specs.Tidy.{Ready}
 use Rattle.live.specs.declared.Ended.the-variants.{Refused}
-use Rattle.live.proofs.Formed.{formed, tidy}
+use Rattle.live.proofs.Formed.{tidy}
+use Rattle.live.proofs.Places.{missing-is}
 use Rattle.live.proofs.Refusing.{Stands, stands}
 use Rattle.live.proofs.Ending.{early, fourteen, handed, ends-refused}
 use Rattle.live.proofs.Auction.end.Statement.{statement}
@@ -16,7 +17,7 @@ still : (c : tie.Else1) → Stands (c .before .before .args .self)
 still c = stands (c .before .before .args .self) (c .before .clear-number .result) (c .before .clear-number .ensures) (c .if1 .left)
 
 ready : (c : tie.Else2) → Ready (c .before .before .before .before .args .self)
-ready c = record { formed = still (c .before .before) .formed; running = still (c .before .before) .running; complete = sym (c .before .misses .ensures) ∙ c .if2 .left }
+ready c = record { formed = still (c .before .before) .formed; running = still (c .before .before) .running; complete = sym (c .before .misses .ensures ∙ missing-is (c .before .before .before .before .args .self)) ∙ c .if2 .left }
 
 clear-number-requires : tie.Need-clear-number-requires
 clear-number-requires c κs = search needs
@@ -33,7 +34,7 @@ returns c =
     (ends-refused r x (early r x (c .before .before .clear-number .ensures) (c .before .if1 .taken)) (c .before .if1 .taken))
 
 misses-requires : tie.Need-misses-requires
-misses-requires c κs = formed (c .before .before .args .self) (still c .formed) .max-bidders
+misses-requires c κs = search needs
 
 stopped-requires-2 : tie.Need-stopped-requires-2
 stopped-requires-2 c κs = search needs
@@ -43,7 +44,7 @@ unfolding endingOf
 returns-2 c =
     let r = c .before .before .before .before .before .args .self in
     handed r (c .stopped2 .result) (record { ended = Refused 14; next = r }) (c .stopped2 .ensures)
-    (ends-refused r 14 (fourteen r (still (c .before .before .before)) (sym (c .before .before .misses .ensures) ∙ c .before .if2 .taken)) (eqb-false 14 0 refl))
+    (ends-refused r 14 (fourteen r (still (c .before .before .before)) (sym (c .before .before .misses .ensures ∙ missing-is r) ∙ c .before .if2 .taken)) (eqb-false 14 0 refl))
 
 rising-set-requires : tie.Need-rising-set-requires
 rising-set-requires c κs = tidy (c .before .before .before .before .args .self) (still (c .before .before) .formed)

@@ -3,7 +3,8 @@ use Prim.Native.Nat.{ℕ}
 use mathlib.Core.Path.{sym, ap, _∙_}
 use native.Mathlib.Omega.{arith}
 use borrow.Author.Needs.{needs}
-use Rattle.live.specs.Calls.{saying, withReport, reportNumber, report}
+use Rattle.reports.specs.Report.{saying}
+use Rattle.live.specs.Calls.{withReport, reportNumber, report}
 use Rattle.live.specs.declared.Auction.{Auction}
 use Rattle.live.proofs.Formed.{formed}
 use Rattle.live.proofs.Refusing.{of-bidder, report-stands, replied, reply-kept, reply-new}

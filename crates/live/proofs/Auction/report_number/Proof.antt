@@ -6,8 +6,9 @@ use mathlib.Core.List.{[], _∷_}
 use native.Mathlib.Omega.{arith}
 use borrow.Author.Needs.{needs}
 use Rattle.rule.specs.Refusal.{on, badBidder}
-use Rattle.live.specs.Auction.{hasReported, unfit}
-use Rattle.live.specs.Calls.{saying, reportNumber}
+use Rattle.reports.specs.Report.{saying, unfit}
+use Rattle.live.specs.Auction.{hasReported}
+use Rattle.live.specs.Calls.{reportNumber}
 use Rattle.live.proofs.Refusing.{Stands, stops, stands, seven-low, seven-high, thirteen, eight, accepted}
 use Rattle.live.proofs.Auction.report_number.Statement.{statement}
 use Rattle.live.proofs.Auction.report_number.Tie as tie

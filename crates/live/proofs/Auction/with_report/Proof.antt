@@ -2,7 +2,8 @@
 use mathlib.Core.Path.{refl}
 use Prim.Native.Nat.{_-_}
 use lib.ListN.{set}
-use Rattle.live.specs.Calls.{withReport, saying}
+use Rattle.reports.specs.Report.{saying}
+use Rattle.live.specs.Calls.{withReport}
 use Rattle.live.proofs.Parts.{by-parts}
 use borrow.Author.Needs.{needs}
 use Rattle.live.proofs.Auction.with_report.Statement.{statement}
