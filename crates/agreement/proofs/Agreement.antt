@@ -1,5 +1,5 @@
 -- The agreement of the live auction with the plain machine, over the whole list. Assumes nothing.
-use Prim.Native.Nat.{ℕ, _+_, _≤_}
+use Prim.Native.Nat.{ℕ, _≤_}
 use mathlib.Core.Path.{_≡_, refl, sym, ap, _∙_, subst}
 use mathlib.Core.Bool.{Bool, true, false}
 use mathlib.Core.List.{List, [], _∷_}
@@ -8,7 +8,7 @@ use native.Mathlib.Nat.{not-suc-le-zero}
 use native.Mathlib.Decide.{decLe}
 use lib.ListN.{length}
 use Rattle.rule.specs.Sheet.{Sheet, withinLimits}
-use Rattle.rule.specs.Round.{closed, path, close, after, opening}
+use Rattle.rule.specs.Round.{closed, path, after, opening}
 use Rattle.rule.specs.Closing.{roundOf, Closing}
 use Rattle.rule.specs.Refusal.{badItems, badBidders}
 use Rattle.rule.proofs.Limits.{Limits, limits}
@@ -23,7 +23,7 @@ use Rattle.live.proofs.Opening.{accepts}
 use Rattle.live.proofs.Parts.{by-parts}
 use Rattle.agreement.specs.Calls.{Call, reporting, ending, clearing, reading, Answer, Answered, call, Ran, run}
 use Rattle.agreement.specs.Machine.{Machine, begin, at, phase, phaseOf, Outcome, answers, leaves, machine, MachineRan, ran, left, behind, machineRun}
-use Rattle.agreement.specs.Agreement.{openingOf, liveRun, standsFor, never, ClosedAs, Agrees}
+use Rattle.agreement.specs.Agreement.{openingOf, liveRun, standsFor, allRounds, never, ClosedAs, Agrees}
 use Rattle.agreement.proofs.Along.{closes-at, not-sooner}
 use Rattle.live.proofs.Formed.{range-in, over-not}
 use Rattle.agreement.proofs.Always.{Sound, keeps, keeps-all, never-eleven, open-sound}
@@ -122,14 +122,14 @@ module _ (s : Sheet) (lim : Limits s) where
     -- ---- where the path closes
 
     module _ (t : Machine) (g : Good s t) where
-      no-more : t .moves ≤ close s .ups + close s .downs
-      no-more = go (decLe (t .moves) (close s .ups + close s .downs))
+      no-more : t .moves ≤ allRounds s
+      no-more = go (decLe (t .moves) (allRounds s))
         where
-          go : Dec (t .moves ≤ close s .ups + close s .downs) → t .moves ≤ close s .ups + close s .downs
+          go : Dec (t .moves ≤ allRounds s) → t .moves ≤ allRounds s
           go (yes l) = l
-          go (no l) = absurd (g .not-before (close s .ups + close s .downs) (omega arith) (closes-at s c (close s .ups + close s .downs) refl))
+          go (no l) = absurd (g .not-before (allRounds s) (omega arith) (closes-at s c (allRounds s) refl))
 
-      closes-only : roundOf s (t .moves) ≡ closed → t .moves ≡ close s .ups + close s .downs
+      closes-only : roundOf s (t .moves) ≡ closed → t .moves ≡ allRounds s
       closes-only e = omega (arith, no-more, not-sooner s c (t .moves) e)
 
       closed-only : standsFor s t .phase ≡ Closed → t .hasClosed ≡ true

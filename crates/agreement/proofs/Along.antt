@@ -12,6 +12,7 @@ use Rattle.rule.specs.Round.{Phase, rising, falling, Round, raised, lowered, cl
 use Rattle.rule.specs.Closing.{demandsAt, excessDemandAt, roundOf, phaseAfter, Closing}
 use Rattle.rule.proofs.Largest.{demand-bound, supply-bound}
 use Rattle.rule.proofs.Moves.{raise-length, lower-length}
+use Rattle.agreement.specs.Agreement.{allRounds}
 use Rattle.agreement.proofs.Rounds.{Takes, raises, lowers, closes, takes}
 
 pub raised-closed : (x : ℕ) → raised x ≡ closed → ⊥
@@ -113,20 +114,18 @@ module _ (s : Sheet) where
             let q : c .ups + (k - c .ups) ≡ k = omega arith in
             subst (λ (j : ℕ). excessDemandAt s (path s j .prices) ≡ 0) q (c .calm (k - c .ups))
 
-    abbrev all-rounds : ℕ
-    all-rounds = close s .ups + close s .downs
-
-    rounds-are : all-rounds ≡ c .ups + c .downs
+    rounds-are : allRounds s ≡ c .ups + c .downs
+    unfolding allRounds
     rounds-are = ap (λ (t : State). t .ups + t .downs) (c .close-is)
 
     -- the path closes after the close's rounds and not before, and is then at the sheet's close
-    pub closes-at : (k : ℕ) → k ≡ all-rounds → roundOf s k ≡ closed
+    pub closes-at : (k : ℕ) → k ≡ allRounds s → roundOf s k ≡ closed
     closes-at k e = ap (roundOf s) (e ∙ rounds-are) ∙ c .closes
 
-    pub not-sooner : (k : ℕ) → roundOf s k ≡ closed → all-rounds ≤ k
-    not-sooner k e = go (decLe all-rounds k)
+    pub not-sooner : (k : ℕ) → roundOf s k ≡ closed → allRounds s ≤ k
+    not-sooner k e = go (decLe (allRounds s) k)
       where
-        go : Dec (all-rounds ≤ k) → all-rounds ≤ k
+        go : Dec (allRounds s ≤ k) → allRounds s ≤ k
         go (yes l) = l
         go (no l) = absurd (c .before-close k (omega (arith, rounds-are)) e)
 

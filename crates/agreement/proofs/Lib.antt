@@ -1,3 +1,4 @@
+pub mod Agreed
 pub mod Bools
 pub mod Numbers
 pub mod Rounds
@@ -14,5 +15,4 @@ pub mod Reading
 pub mod Counted
 pub mod Agreement
 pub mod Endings
-pub mod Example
 pub mod Sealed

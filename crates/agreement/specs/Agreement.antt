@@ -9,7 +9,7 @@ use Rattle.sets.specs.Count.{toNat}
 use Rattle.sets.specs.Bit.{setOf}
 use Rattle.sets.specs.Lists.{tabulate, places}
 use Rattle.rule.specs.Sheet.{Sheet}
-use Rattle.rule.specs.Round.{Round, closed, close}
+use Rattle.rule.specs.Round.{Round, closed, State, close}
 use Rattle.rule.specs.Closing.{roundOf, assignmentAt}
 use Rattle.lines.specs.Lines.{closingLength, writtenTo}
 use Rattle.live.specs.Auction.{wellFormed}
@@ -42,6 +42,10 @@ standsFor s t =
       raised = at s t .ups;
       lowered = at s t .downs;
     }
+
+-- how many rounds the sheet's path has
+unfoldable pub allRounds : Sheet → ℕ
+allRounds s = let c : State = close s in c .ups + c .downs
 
 -- the rounds among the answers: moves and a close
 unfoldable pub roundsOf : List Answer → List Round
@@ -81,16 +85,16 @@ pub record Agrees (s : Sheet) (calls : List Call) (theirs : List Answer) (t : Ma
   pub same-record : liveRun s calls .last ≡ standsFor s t
   -- the rounds answered are the path's, in order, up to the close and not beyond
   pub rounds : roundsOf theirs ≡ tabulate (t .moves + toNat (t .hasClosed)) (roundOf s) 0
-  pub no-more : t .moves ≤ close s .ups + close s .downs
+  pub no-more : t .moves ≤ allRounds s
   -- the auction is closed if and only if the machine has closed, which is after all of the path's rounds, at its closing prices and names
   pub closed-only : liveRun s calls .last .phase ≡ Closed → t .hasClosed ≡ true
   pub closed-when : t .hasClosed ≡ true → liveRun s calls .last .phase ≡ Closed
-  pub after-all : t .hasClosed ≡ true → t .moves ≡ close s .ups + close s .downs
+  pub after-all : t .hasClosed ≡ true → t .moves ≡ allRounds s
   pub as-the-sheet : t .hasClosed ≡ true → ClosedAs s (liveRun s calls .last)
   -- before that, an end that finds each bidder's demand standing gives the path's round, and that is a close if and only if all of the path's rounds are made
   pub next-round : t .hasClosed ≡ false → demandsStand s t ≡ true → endAnswer (liveRun s calls .last) ≡ gives (roundOf s (t .moves))
-  pub closes-only : roundOf s (t .moves) ≡ closed → t .moves ≡ close s .ups + close s .downs
-  pub closes-when : t .moves ≡ close s .ups + close s .downs → roundOf s (t .moves) ≡ closed
+  pub closes-only : roundOf s (t .moves) ≡ closed → t .moves ≡ allRounds s
+  pub closes-when : t .moves ≡ allRounds s → roundOf s (t .moves) ≡ closed
   -- 11 never applies, and no number, 16 and 17 among them, to an end that finds each bidder's demand standing
   pub well-formed : wellFormed (liveRun s calls .last) ≡ true
   pub no-eleven : never 11 theirs ≡ true

@@ -120,7 +120,8 @@ machineReadNumber s t out =
 -- the sealed closing sheet: the sheet's rounds, prices and names at its close, in the three lines
 unfoldable pub sealedSheet : Sheet → List ℕ
 sealedSheet s =
-    closingSheet (s .items) (length (s .bids)) (close s .ups) (close s .downs) (close s .prices) (assignmentAt s (close s .prices))
+    let c : State = close s in
+    closingSheet (s .items) (length (s .bids)) (c .ups) (c .downs) (c .prices) (assignmentAt s (c .prices))
 
 -- a read: 15, 3; otherwise it gives the sheet's rounds, prices and names
 unfoldable pub machineRead : Sheet → Machine → List ℕ → Outcome
