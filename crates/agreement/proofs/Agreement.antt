@@ -13,6 +13,7 @@ use Rattle.rule.specs.Closing.{roundOf, Closing}
 use Rattle.rule.specs.Refusal.{badItems, badBidders}
 use Rattle.rule.proofs.Limits.{Limits, limits}
 use Rattle.rule.proofs.Closing.{closing}
+use Rattle.rule.proofs.Refusal.{range-in}
 use Rattle.sets.proofs.Counting.{not-both}
 use Rattle.live.specs.Auction.{wellFormed}
 use Rattle.live.specs.Calls.{isClosed, opened, endNumber, endAnswer}
@@ -25,7 +26,7 @@ use Rattle.agreement.specs.Calls.{Call, reporting, ending, clearing, rea
 use Rattle.agreement.specs.Machine.{Machine, begin, at, phase, phaseOf, Outcome, answers, leaves, machine, MachineRan, ran, left, behind, machineRun}
 use Rattle.agreement.specs.Agreement.{openingOf, liveRun, standsFor, allRounds, never, ClosedAs, Agrees}
 use Rattle.agreement.proofs.Along.{closes-at, not-sooner}
-use Rattle.live.proofs.Formed.{range-in, over-not}
+use Rattle.live.proofs.Formed.{over-not}
 use Rattle.agreement.proofs.Always.{Sound, keeps, keeps-all, never-eleven, open-sound}
 use Rattle.agreement.proofs.Counted.{rounds-are}
 use Rattle.agreement.proofs.Follows.{Good, Follows, no-nulls, no-reported, no-sets}

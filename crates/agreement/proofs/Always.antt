@@ -18,7 +18,7 @@ use Rattle.rule.specs.Sheet.{amount}
 use Rattle.rule.specs.Demand.{Demand}
 use Rattle.rule.specs.Round.{Round, raised, lowered, closed}
 use Rattle.rule.specs.Refusal.{Refusal, on, first, badItems, badBidders, badLength, anyOver, badBidder}
-use Rattle.rule.proofs.Refusal.{passed, given}
+use Rattle.rule.proofs.Refusal.{passed, given, none as first-none, in-range}
 use Rattle.rule.proofs.Limits.{amount-beyond}
 use Rattle.lines.specs.Lines.{writtenTo}
 use Rattle.reports.specs.Report.{unfit}
@@ -30,8 +30,7 @@ use Rattle.live.specs.declared.Phase.the-variants.{Rising}
 use Rattle.live.specs.declared.Reply.{Reply}
 use Rattle.agreement.specs.Calls.{Call, reporting, ending, clearing, reading, ended, call, run}
 use Rattle.agreement.specs.Agreement.{numberOf, never}
-use Rattle.live.proofs.Refusing.{none as first-none}
-use Rattle.live.proofs.Formed.{in-range, not-over, Formed, formed, well}
+use Rattle.live.proofs.Formed.{not-over, Formed, formed, well}
 use Rattle.agreement.proofs.Keeps.{without-reports, not-closed, cleared-formed, reported-formed}
 use Rattle.agreement.proofs.Settles.{settled-formed, rising-make}
 

@@ -19,7 +19,7 @@ use Rattle.rule.specs.Round.{rising, falling, Round, raised, lowered, closed, S
 use Rattle.rule.specs.Round.{Phase as RulePhase}
 use Rattle.rule.specs.Closing.{demandsAt, excessDemandAt, roundOf, phaseAfter, Closing}
 use Rattle.rule.proofs.Limits.{Limits}
-use Rattle.rule.proofs.Refusal.{passed}
+use Rattle.rule.proofs.Refusal.{passed, first-nil}
 use Rattle.prices.proofs.Moving.{raise-places, lower-places}
 use Rattle.live.specs.Auction.{reportsOf, missing, aboveZero, risingSet, wellFormed}
 use Rattle.live.specs.Calls.{isClosed, isFalling, isRising, atTop, endNumber, ruled, roundBy, settled, gives, refused, endAnswer, endNext}
@@ -31,7 +31,7 @@ use Rattle.agreement.specs.Machine.{Machine, none, at, phaseOf, phase, s
 use Rattle.agreement.specs.Agreement.{standsFor}
 use Rattle.agreement.proofs.Along.{raised-closed, lowered-closed, step-by, rising-at, moved-small, phase-is, long-along, falling-calm}
 use Rattle.agreement.proofs.Bools.{and-right-false}
-use Rattle.agreement.proofs.Numbers.{first-same, first-nil}
+use Rattle.agreement.proofs.Numbers.{first-same}
 use Rattle.agreement.proofs.Standing.{said-demands, none-missing, closed-stands, reports-is, missing-is, above-is, rising-is, top-is}
 use Rattle.agreement.proofs.Follows.{Good, Follows, no-nulls, no-reported, no-sets}
 

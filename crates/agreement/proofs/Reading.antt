@@ -16,7 +16,7 @@ use Rattle.rule.specs.Round.{State, close}
 use Rattle.rule.specs.Assignment.{assignment}
 use Rattle.rule.specs.Closing.{assignmentAt, Closing}
 use Rattle.rule.proofs.Limits.{Limits}
-use Rattle.rule.proofs.Refusal.{passed}
+use Rattle.rule.proofs.Refusal.{passed, first-nil, none as first-none}
 use Rattle.digits.specs.Digits.{hex}
 use Rattle.lines.specs.Lines.{newline, joined, closingSheet, closingLength, writtenTo}
 use Rattle.live.specs.Auction.{reportsOf, aboveZero, wellFormed}
@@ -27,8 +27,7 @@ use Rattle.agreement.specs.Machine.{Machine, at, answers, sealedSheet, m
 use Rattle.agreement.specs.Agreement.{standsFor, ClosedAs}
 use Rattle.agreement.proofs.Along.{closed-close}
 use Rattle.agreement.proofs.Lists.{joined-cong}
-use Rattle.live.proofs.Refusing.{none as first-none}
-use Rattle.agreement.proofs.Numbers.{first-same, first-nil}
+use Rattle.agreement.proofs.Numbers.{first-same}
 use Rattle.agreement.proofs.Standing.{said-demands, closed-stands, reports-is, above-is}
 use Rattle.agreement.proofs.Follows.{Good, Follows}
 

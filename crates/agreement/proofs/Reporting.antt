@@ -15,7 +15,7 @@ use Rattle.rule.specs.Sheet.{Sheet}
 use Rattle.rule.specs.Demand.{Demand}
 use Rattle.rule.specs.Refusal.{Refusal, on, first, badBidder}
 use Rattle.rule.proofs.Limits.{Limits}
-use Rattle.rule.proofs.Refusal.{passed}
+use Rattle.rule.proofs.Refusal.{passed, none as first-none, in-range}
 use Rattle.reports.specs.Report.{unfit}
 use Rattle.live.specs.Auction.{hasReported, wellFormed}
 use Rattle.live.specs.Calls.{isClosed, reportNumber, withReport, report, clearNumber, cleared, clear}
@@ -24,9 +24,7 @@ use Rattle.agreement.specs.Calls.{reporting, clearing, call}
 use Rattle.agreement.specs.Machine.{Standing, none, stands, Machine, at, phase, doesStand, said, tells, machine, machineReport, machineClear}
 use Rattle.agreement.specs.Agreement.{standsFor}
 use Rattle.agreement.proofs.Bools.{or-false, and-true, and-right-false}
-use Rattle.live.proofs.Formed.{in-range}
 use Rattle.agreement.proofs.Lists.{tabulate-same, tabulate-set}
-use Rattle.live.proofs.Refusing.{none as first-none}
 use Rattle.agreement.proofs.Numbers.{first-same}
 use Rattle.agreement.proofs.Standing.{closed-stands, reported-is}
 use Rattle.agreement.proofs.Follows.{Good, Follows, replies, no-nulls, no-reported, no-sets}

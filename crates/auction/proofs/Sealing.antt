@@ -1,5 +1,5 @@
 -- The outcome of the sealed auction, from what the code's steps answer, and what it promises of its sheet. Assumes nothing.
-use Prim.Native.Nat.{ℕ, zero, suc, _^_, _≤_, _<_}
+use Prim.Native.Nat.{ℕ, zero, suc, _^_, _<_}
 use mathlib.Core.Path.{_≡_, refl, sym, ap, ap₂, _∙_, subst}
 use mathlib.Core.Bool.{true}
 use mathlib.Core.List.{List}
@@ -17,10 +17,11 @@ use Rattle.prices.proofs.Moving.{demands-places, positive-places}
 use Rattle.assignment.specs.Assigned.{assigned}
 use Rattle.assignment.proofs.Unfit.{assigned-is}
 use Rattle.assignment.proofs.Narrowing.{assignment-narrow}
-use Rattle.auction.specs.Lent.{sheetOf}
-use Rattle.auction.specs.Sealed.{sealedRefusal, refused, closed, outcome, sealedOf, Promised}
+use Rattle.bids.specs.Lent.{sheetOf}
+use Rattle.bids.specs.Refusal.{sealedRefusal}
+use Rattle.bids.proofs.Limits.{accepted-within}
+use Rattle.auction.specs.Sealed.{refused, closed, outcome, sealedOf, Promised}
 use Rattle.auction.specs.declared.Closing.{Closing}
-use Rattle.auction.proofs.Limits.{accepted-within}
 use Rattle.auction.proofs.Demanding.{positive-lt}
 use Rattle.auction.proofs.Walking.{Ready, ready, path-long}
 
@@ -79,7 +80,7 @@ module _ (s : Sheet) (g : Ready s) where
   close-long = path-long s (g .long) 8190
 
   -- the names at the closing prices
-  module _ (n : ℕ) (p sets : List ℕ) (nulls above : ℕ) (ln : n ≤ 64) (ep : p ≡ places 32 (close s .prices)) (ea : above ≡ positive (s .items) p)
+  module _ (n : ℕ) (p sets : List ℕ) (nulls above : ℕ) (ep : p ≡ places 32 (close s .prices)) (ea : above ≡ positive (s .items) p)
       (rep : Reported (s .items) n sets) (same : reports n sets nulls ≡ demands (s .items) (s .bids) p) where
     above-is : above ≡ positive (s .items) (close s .prices)
     above-is = ea ∙ ap (positive (s .items)) ep ∙ positive-places (s .items) (g .max-items) (close s .prices) close-long (s .items)
@@ -92,7 +93,7 @@ module _ (s : Sheet) (g : Ready s) where
 
     names-at : assigned sets nulls above n ≡ places 64 (assignmentAt s (close s .prices))
     names-at =
-        sym (assigned-is sets nulls above n ln) ∙ ap (places 64) (assignment-narrow (s .items) n sets rep nulls above above-lt ∙ ap₂ (assignment (s .items)) above-is reports-are)
+        sym (assigned-is sets nulls above n (rep .max-bidders)) ∙ ap (places 64) (assignment-narrow (s .items) n sets rep nulls above above-lt ∙ ap₂ (assignment (s .items)) above-is reports-are)
 
     pub sealed-is : (u k : ℕ) (names : List ℕ) → u ≡ close s .ups → k ≡ close s .downs → names ≡ assigned sets nulls above n
         → _≡_ {A = Closing} (record { refusal = 0; raised = u; lowered = k; prices = p; assignment = names }) (closed s)

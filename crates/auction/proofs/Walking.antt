@@ -1,5 +1,5 @@
 -- One round more along a sheet's path, and where the rounds end: the code's prices are the path's, in 32 places. Assumes nothing.
-use Prim.Native.Nat.{ℕ, suc, _+_, _-_, _≤_, _<_}
+use Prim.Native.Nat.{ℕ, suc, _+_, _≤_, _<_}
 use mathlib.Core.Path.{_≡_, refl, sym, ap, ap₂, _∙_}
 use mathlib.Core.Bool.{Bool, true, false}
 use mathlib.Core.List.{List}
@@ -50,11 +50,10 @@ pub record Falling (s : Sheet) (u k : ℕ) (p : List ℕ) : Type 0 where
 pub record Ready (s : Sheet) : Type 0 where
   pub closing : Closing s
   pub max-items : s .items ≤ 32
-  pub max-bidders : length (s .bids) ≤ 64
   pub long : length (s .start) ≡ s .items
 
 pub ready : (s : Sheet) → withinLimits s ≡ true → Ready s
-ready s e = let l = limits s e in record { closing = closing s e; max-items = l .max-items; max-bidders = l .max-bidders; long = l .start .long }
+ready s e = let l = limits s e in record { closing = closing s e; max-items = l .max-items; long = l .start .long }
 
 module _ (s : Sheet) (g : Ready s) where
   abbrev c : Closing s

@@ -1,4 +1,2 @@
-pub mod Lent
-pub mod Line
 pub mod Sealed
 pub mod Steps

@@ -1,22 +1,17 @@
--- The sealed auction: document 01, "Order", "What demand 3 speaks of". Assumes nothing: these are definitions.
-use Prim.Native.Nat.{ℕ, zero, suc, _*_}
+-- The sealed auction: document 01, "What demand 3 speaks of". Assumes nothing: these are definitions.
+use Prim.Native.Nat.{ℕ, zero, suc}
 use mathlib.Core.Path.{_≡_}
 use mathlib.Core.Bool.{true}
-use mathlib.Core.List.{List, [], _∷_}
+use mathlib.Core.List.{List}
 use lib.ListN.{replicate}
 use Rattle.sets.specs.Lists.{places}
 use Rattle.rule.specs.Sheet.{Sheet, withinLimits}
 use Rattle.rule.specs.Round.{close}
 use Rattle.rule.specs.Closing.{assignmentAt}
 use Rattle.rule.specs.Closing as rule
-use Rattle.rule.specs.Refusal.{on, first, badItems, badBidders, badLength, anyOver}
-use Rattle.auction.specs.Lent.{sheetOf}
+use Rattle.bids.specs.Lent.{sheetOf}
+use Rattle.bids.specs.Refusal.{sealedRefusal}
 use Rattle.auction.specs.declared.Closing.{Closing}
-
--- the number that turns a sheet down, or 0: 1, 2, 3, 4, 5
-unfoldable pub sealedRefusal : ℕ → ℕ → List ℕ → List ℕ → ℕ
-sealedRefusal m n start bids =
-    first (on 1 (badItems m) ∷ on 2 (badBidders n) ∷ on 3 (badLength start m) ∷ on 3 (badLength bids (n * m)) ∷ on 4 (anyOver start) ∷ on 5 (anyOver bids) ∷ [])
 
 -- beside a number, zeros only
 unfoldable pub refused : ℕ → Closing
@@ -33,7 +28,7 @@ closed s =
       assignment = places 64 (assignmentAt s (close s .prices));
     }
 
--- the outcome of the sealed auction, by that number
+-- the outcome of the sealed auction, by the number that turns its sheet down
 unfoldable pub outcome : ℕ → Sheet → Closing
 outcome zero s = closed s
 outcome (suc why) s = refused (suc why)

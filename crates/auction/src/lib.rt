@@ -1,18 +1,16 @@
-// The sealed auction, and a bidder's line of the lent bids.
+// The sealed auction.
 ghost use mathlib.Core.Path.{_≡_};
 ghost use mathlib.Core.Bool.{true};
-ghost use Prim.Native.Nat.{_+_, _*_, _≤_, _<_, max};
+ghost use Prim.Native.Nat.{_+_, _*_, _≤_, max};
 ghost use lib.ListN.{length};
 ghost use Rattle.sets.specs.Lists.{places};
 ghost use Rattle.rule.specs.Sheet.{withinLimits};
 ghost use Rattle.rule.specs.Demand.{demand, demands};
 ghost use Rattle.rule.specs.Excess.{excessDemand, excessSupply, positive};
 ghost use Rattle.rule.specs.Round.{path, close};
-ghost use Rattle.rule.specs.Refusal.{badItems, badBidders, badBidder};
-ghost use Rattle.auction.specs.Lent.{lineOf, rowsOf, sheetOf};
-ghost use Rattle.auction.specs.Line.{lineRefusal, lineShown};
-ghost use Rattle.auction.specs.Sealed.{sealedRefusal, sealedOf, Promised};
-ghost use Rattle.auction.specs.Steps.{Highest, Demanded};
+ghost use Rattle.bids.specs.Lent.{rowsOf, sheetOf};
+ghost use Rattle.auction.specs.Sealed.{sealedOf, Promised};
+ghost use Rattle.auction.specs.Steps.{Highest, Counted, Demanded};
 
 // ---- what a bidder demands
 
@@ -75,16 +73,6 @@ fn demand_of(prices: &[u16; 32], line: &[u16]) -> Demand
     }
 }
 
-// The bids of the bidder at place b.
-fn row(bids: &[u16], items: usize, b: usize) -> &[u16]
-    requires { ⌜ (items ≤ 32) × (b < 64) × (b * items + items ≤ length (now bids)) ⌝ }
-    ensures { λ r. ⌜ now r ≡ lineOf items (now (bids .entry)) b ⌝ }
-{
-    let start = b * items;
-    let end = start + items;
-    &bids[start..end]
-}
-
 // The demands of all bidders: an item set for each, and the set of those who demand null.
 struct Demands {
     sets: [u32; 64],
@@ -92,14 +80,14 @@ struct Demands {
 }
 
 fn demands_at(prices: &[u16; 32], bids: &[u16], items: usize, bidders: usize) -> Demands
-    requires { ⌜ (items ≤ 32) × (bidders ≤ 64) × (length (now bids) ≡ bidders * items) ⌝ }
+    requires { ⌜ Counted items bidders (now bids) ⌝ }
     ensures { λ r. ⌜ Demanded items bidders (now (prices .entry)) (now (bids .entry)) (r .sets) (r .nulls) ⌝ }
 {
     let mut sets = [0u32; 64];
     let mut nulls: u64 = 0;
     let mut b: usize = 0;
     while b < bidders {
-        let d = demand_of(prices, row(bids, items, b));
+        let d = demand_of(prices, bids::line(bids, items, bidders, b + 1));
         sets[b] = d.items;
         nulls = round::add_bidder(nulls, b + 1, d.null);
         b += 1;
@@ -114,7 +102,7 @@ fn demands_at(prices: &[u16; 32], bids: &[u16], items: usize, bidders: usize) ->
 
 // The rising set at prices.
 fn rising_at(prices: &[u16; 32], bids: &[u16], items: usize, bidders: usize) -> u32
-    requires { ⌜ (items ≤ 32) × (bidders ≤ 64) × (length (now bids) ≡ bidders * items) ⌝ }
+    requires { ⌜ Counted items bidders (now bids) ⌝ }
     ensures { λ r. ⌜ r ≡ excessDemand items (demands items (rowsOf items bidders (now (bids .entry))) (now (prices .entry))) ⌝ }
 {
     let d = demands_at(prices, bids, items, bidders);
@@ -124,7 +112,7 @@ fn rising_at(prices: &[u16; 32], bids: &[u16], items: usize, bidders: usize) -> 
 
 // The falling set at prices, where no price past the items is above 0.
 fn falling_at(prices: &[u16; 32], bids: &[u16], items: usize, bidders: usize) -> u32
-    requires { ⌜ (items ≤ 32) × (bidders ≤ 64) × (length (now bids) ≡ bidders * items) × (positive 32 (now prices) ≡ positive items (now prices)) ⌝ }
+    requires { ⌜ Counted items bidders (now bids) × (positive 32 (now prices) ≡ positive items (now prices)) ⌝ }
     ensures { λ r. ⌜ r ≡ excessSupply items (positive items (now (prices .entry)))
         (demands items (rowsOf items bidders (now (bids .entry))) (now (prices .entry))) ⌝ }
 {
@@ -189,70 +177,7 @@ fn rounds(start: &[u16], bids: &[u16], items: usize, bidders: usize) -> Path
     }
 }
 
-// ---- what turns a call down
-
-// 1: items outside 1 to 32.
-fn bad_items(items: u32) -> bool
-    ensures { λ r. ⌜ r ≡ badItems items ⌝ }
-{
-    if items < 1 {
-        return true;
-    }
-    32 < items
-}
-
-// 2: bidders outside 1 to 64.
-fn bad_bidders(bidders: u32) -> bool
-    ensures { λ r. ⌜ r ≡ badBidders bidders ⌝ }
-{
-    if bidders < 1 {
-        return true;
-    }
-    64 < bidders
-}
-
-// 7: a bidder's number outside 1 to the count.
-fn bad_bidder(bidders: u32, bidder: u32) -> bool
-    ensures { λ r. ⌜ r ≡ badBidder bidders bidder ⌝ }
-{
-    if bidder < 1 {
-        return true;
-    }
-    bidders < bidder
-}
-
-// How many bids there are.
-fn bid_count(items: u32, bidders: u32) -> usize
-    requires { ⌜ (items ≤ 32) × (bidders ≤ 64) ⌝ }
-    ensures { λ r. ⌜ r ≡ bidders * items ⌝ }
-{
-    (bidders as usize) * (items as usize)
-}
-
-// The number that turns a sheet down, or 0.
-fn refusal(items: u32, bidders: u32, start: &[u16], bids: &[u16]) -> u8
-    ensures { λ r. ⌜ r ≡ sealedRefusal items bidders (now (start .entry)) (now (bids .entry)) ⌝ }
-{
-    if bad_items(items) {
-        return 1;
-    }
-    if bad_bidders(bidders) {
-        return 2;
-    }
-    if start.len() != items as usize {
-        return 3;
-    }
-    if bids.len() != bid_count(items, bidders) {
-        return 3;
-    }
-    if prices::any_over(start) {
-        return 4;
-    }
-    if prices::any_over(bids) {
-        return 5;
-    }
-    0
-}
+// ---- the sealed auction
 
 // The close of a sealed auction: the number that turned it down, or 0; rounds raised and lowered; the closing prices; each bidder's item,
 // or 0 for null.
@@ -269,7 +194,9 @@ pub fn sealed(items: u32, bidders: u32, start: &[u16], bids: &[u16]) -> Closing
     ensures outcome { λ r. ⌜ r ≡ sealedOf items bidders (now (start .entry)) (now (bids .entry)) ⌝ }
     ensures promised { λ r. ⌜ (r .refusal ≡ 0 → Promised (sheetOf items bidders (now (start .entry)) (now (bids .entry))) r) ⌝ }
 {
-    let why = refusal(items, bidders, start, bids);
+    let m = items as usize;
+    let n = bidders as usize;
+    let why = bids::refusal(m, n, start, bids);
     if why != 0 {
         return Closing {
             refusal: why,
@@ -279,8 +206,6 @@ pub fn sealed(items: u32, bidders: u32, start: &[u16], bids: &[u16]) -> Closing
             assignment: [0; 64],
         };
     }
-    let m = items as usize;
-    let n = bidders as usize;
     let path = rounds(start, bids, m, n);
     let ups = path.raised;
     let downs = path.lowered;
@@ -295,33 +220,4 @@ pub fn sealed(items: u32, bidders: u32, start: &[u16], bids: &[u16]) -> Closing
         prices: last,
         assignment: names,
     }
-}
-
-// The number that turns down the asking for a bidder's line, or 0.
-pub fn line_refusal(bids: &[u16], items: u32, bidders: u32, bidder: u32) -> u8
-    ensures { λ r. ⌜ r ≡ lineRefusal items bidders bidder (now (bids .entry)) ⌝ }
-{
-    if bad_items(items) {
-        return 1;
-    }
-    if bad_bidders(bidders) {
-        return 2;
-    }
-    if bids.len() != bid_count(items, bidders) {
-        return 3;
-    }
-    if bad_bidder(bidders, bidder) {
-        return 7;
-    }
-    0
-}
-
-// A bidder's line: the part of the bids that is theirs, of length 0 where the call is turned down.
-pub fn line(bids: &[u16], items: u32, bidders: u32, bidder: u32) -> &[u16]
-    ensures { λ r. ⌜ now r ≡ lineShown items bidders bidder (now (bids .entry)) ⌝ }
-{
-    if line_refusal(bids, items, bidders, bidder) != 0 {
-        return &bids[..0];
-    }
-    row(bids, items as usize, (bidder - 1) as usize)
 }

@@ -11,6 +11,7 @@ use lib.Seq.{length-sets, length-take-le}
 use borrow.Author.Tests.{lt-ltb, le-ltb}
 use Rattle.rule.specs.Round.{Round, raised, lowered, closed}
 use Rattle.rule.specs.Refusal.{on, badItems, badBidders, badLength, anyOver}
+use Rattle.rule.proofs.Refusal.{none as first-none, in-range}
 use Rattle.lines.specs.Lines.{writtenTo}
 use Rattle.digits.specs.Reading.{_>>=_, numberAt}
 use Rattle.lines.proofs.Stores.{sets-front}
@@ -18,9 +19,8 @@ use Rattle.reports.specs.Report.{saying}
 use Rattle.live.specs.Calls.{openNumber, opened, unopened, openAuction, report, clear, endNumber, roundBy, settled, Ending, gives, refused, endAnswer, endNext}
 use Rattle.live.specs.declared.Auction.{Auction}
 use Rattle.live.specs.declared.Reply.{Reply}
-use Rattle.live.proofs.Formed.{in-range, formed}
+use Rattle.live.proofs.Formed.{formed}
 use Rattle.live.proofs.Refusing.{standing}
-use Rattle.live.proofs.Refusing.{none as first-none}
 use Rattle.console.specs.Orders.{starts, alone, startsAt, startsOf, opening, reporting, orderOf}
 use Rattle.console.specs.Answers.{Told, opens, replies, ends, reads, toldBy, told}
 use Rattle.console.specs.Steps.{isRead, Puts, toldTo, Answers}

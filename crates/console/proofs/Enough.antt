@@ -12,8 +12,8 @@ use Rattle.sets.specs.Lists.{places}
 use Rattle.sets.proofs.Counting.{lt-or-le}
 use Rattle.sets.proofs.Lists.{places-length, places-at}
 use Rattle.rule.specs.Refusal.{badItems, badBidders}
+use Rattle.rule.proofs.Refusal.{in-range}
 use Rattle.live.specs.Calls.{openAuction}
-use Rattle.live.proofs.Formed.{in-range}
 use Rattle.live.proofs.Opening.{one, two, three}
 
 -- a list that has no more places than there are is its part of them

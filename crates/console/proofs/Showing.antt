@@ -9,7 +9,7 @@ use lib.Seq.{sets, sets-eq, set-comm, take-all, drop-drop}
 use borrow.Author.Tests.{le-ltb, not-false}
 use borrow.Rule.Slice.PartMut.{midOf, postOf, putMid}
 use Rattle.rule.specs.Refusal.{Refusal, on, first}
-use Rattle.rule.proofs.Refusal.{given}
+use Rattle.rule.proofs.Refusal.{given, none}
 use Rattle.lines.specs.Lines.{newline, closingLength, writtenTo}
 use Rattle.lines.proofs.Stores.{sets-then}
 use Rattle.lines.proofs.Lengths.{closing-length}
@@ -18,7 +18,6 @@ use Rattle.live.specs.Calls.{isClosed}
 use Rattle.live.specs.Reading.{tooFew, sheetOf, readNumber, readBytes}
 use Rattle.live.specs.declared.Auction.{Auction}
 use Rattle.live.proofs.Formed.{Formed, formed}
-use Rattle.live.proofs.Refusing.{none}
 use Rattle.console.specs.Answers.{numberText, numberLine, sheetText, reads}
 use Rattle.console.specs.Steps.{Puts}
 use Rattle.console.proofs.Writing.{number-long}

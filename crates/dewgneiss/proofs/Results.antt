@@ -1,6 +1,6 @@
 -- The lent lists after the call. Assumes nothing.
 use Prim.Native.Nat.{ℕ, zero, suc, _*_}
-use mathlib.Core.Path.{_≡_, refl, sym, ap, _∙_}
+use mathlib.Core.Path.{_≡_, refl, ap, _∙_}
 use mathlib.Core.Bool.{Bool}
 use mathlib.Core.List.{List, [], _∷_}
 use native.Mathlib.Omega.{arith}
@@ -8,8 +8,9 @@ use lib.ListN.{length, set}
 use Rattle.sets.specs.Lists.{places}
 use Rattle.rule.specs.Sheet.{Sheet}
 use Rattle.rule.specs.Refusal.{badItems, badBidders, badLength, anyOver}
-use Rattle.auction.specs.Lent.{sheetOf}
-use Rattle.auction.specs.Sealed.{sealedOf, sealedRefusal, outcome, refused, closed}
+use Rattle.bids.specs.Lent.{sheetOf}
+use Rattle.bids.specs.Refusal.{sealedRefusal}
+use Rattle.auction.specs.Sealed.{sealedOf, outcome, refused, closed}
 use Rattle.sheet.specs.Close.{byNumber}
 use Rattle.auction.specs.declared.Closing.{Closing}
 use Rattle.dewgneiss.specs.Lent.{unfit, lentRefusal, withLengths}

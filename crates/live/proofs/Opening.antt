@@ -1,14 +1,12 @@
 -- The ways of an opening. Assumes nothing.
-use mathlib.Core.Path.{_≡_, refl, ap, sym, _∙_}
-use mathlib.Core.Bool.{Bool, true, false, _||_, not}
+use mathlib.Core.Path.{_≡_, ap, sym, _∙_}
+use mathlib.Core.Bool.{true, false}
 use mathlib.Core.List.{List, [], _∷_}
 use Prim.Native.Nat.{ℕ, zero, suc, _≤_, _<_}
-use lib.Dec.{ltb}
 use lib.ListN.{length, replicate}
-use borrow.Author.Tests.{lt-ltb, le-ltb, eq-eqb, ne-eqb}
 use Rattle.sets.specs.Lists.{places}
 use Rattle.rule.specs.Refusal.{on, first, badItems, badBidders, badLength, anyOver}
-use Rattle.rule.proofs.Refusal.{passed, given}
+use Rattle.rule.proofs.Refusal.{passed, given, first-nil, under-range, over-range, range-in, exact, inexact}
 use Rattle.live.specs.declared.Phase.the-variants.{Rising}
 use Rattle.live.specs.Calls.{openNumber, opened, unopened, openAuction}
 use Rattle.live.specs.declared.Reply.{Reply}
@@ -17,33 +15,29 @@ use Rattle.live.specs.declared.Reply.{Reply}
 
 pub few-items : (m : ℕ) → m < 1 → badItems m ≡ true
 unfolding badItems
-few-items m l = ap (λ (x : Bool). x || ltb 32 m) (lt-ltb m 1 l)
+few-items = under-range 32
 
 pub many-items : (m : ℕ) → 1 ≤ m → 32 < m → badItems m ≡ true
 unfolding badItems
-many-items m l h = ap (λ (x : Bool). x || ltb 32 m) (le-ltb m 1 l) ∙ lt-ltb 32 m h
+many-items = over-range 32
 
 pub good-items : (m : ℕ) → 1 ≤ m → m ≤ 32 → badItems m ≡ false
 unfolding badItems
-good-items m l h = ap (λ (x : Bool). x || ltb 32 m) (le-ltb m 1 l) ∙ le-ltb 32 m h
+good-items = range-in 32
 
 pub few-bidders : (n : ℕ) → n < 1 → badBidders n ≡ true
 unfolding badBidders
-few-bidders n l = ap (λ (x : Bool). x || ltb 64 n) (lt-ltb n 1 l)
+few-bidders = under-range 64
 
 pub many-bidders : (n : ℕ) → 1 ≤ n → 64 < n → badBidders n ≡ true
 unfolding badBidders
-many-bidders n l h = ap (λ (x : Bool). x || ltb 64 n) (le-ltb n 1 l) ∙ lt-ltb 64 n h
+many-bidders = over-range 64
 
 pub good-bidders : (n : ℕ) → 1 ≤ n → n ≤ 64 → badBidders n ≡ false
 unfolding badBidders
-good-bidders n l h = ap (λ (x : Bool). x || ltb 64 n) (le-ltb n 1 l) ∙ le-ltb 64 n h
+good-bidders = range-in 64
 
 -- ---- the number
-
-first-nil : first [] ≡ 0
-unfolding first
-first-nil = refl
 
 module _ (m n : ℕ) (start : List ℕ) where
   by-number : (x : ℕ) → openNumber m n start ≡ suc x → openAuction m n start ≡ unopened (suc x)
@@ -65,13 +59,11 @@ module _ (m n : ℕ) (start : List ℕ) where
       past-two = passed 1 (badItems m) _ a ∙ passed 2 (badBidders n) _ b
 
       pub three : (length start ≡ m → ⊥) → openAuction m n start ≡ unopened 3
-      unfolding badLength
-      three ne = by-number 2 (past-two ∙ given 3 (badLength start m) _ (ap not (ne-eqb (length start) m ne)))
+      three ne = by-number 2 (past-two ∙ given 3 (badLength start m) _ (inexact start m ne))
 
       module _ (e : length start ≡ m) where
         past-three : openNumber m n start ≡ first (on 4 (anyOver start) ∷ [])
-        unfolding badLength
-        past-three = past-two ∙ passed 3 (badLength start m) _ (ap not (eq-eqb (length start) m e))
+        past-three = past-two ∙ passed 3 (badLength start m) _ (exact start m e)
 
         pub four : anyOver start ≡ true → openAuction m n start ≡ unopened 4
         four q = by-number 3 (past-three ∙ given 4 (anyOver start) [] q)

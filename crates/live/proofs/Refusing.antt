@@ -5,22 +5,15 @@ use mathlib.Core.Path.{_≡_, refl, sym, ap, _∙_}
 use mathlib.Core.Bool.{Bool, true, false, not}
 use mathlib.Core.List.{List, [], _∷_}
 use native.Mathlib.Omega.{arith}
-use borrow.Author.Tests.{lt-ltb, le-ltb, not-false}
+use borrow.Author.Tests.{not-false}
 use Rattle.rule.specs.Demand.{Demand}
 use Rattle.rule.specs.Refusal.{Refusal, on, first, badBidder}
-use Rattle.rule.proofs.Refusal.{passed, given}
+use Rattle.rule.proofs.Refusal.{passed, given, first-nil, none, under-range, over-range, range-in, in-range}
 use Rattle.reports.specs.Report.{unfit}
 use Rattle.live.specs.Auction.{hasReported, wellFormed}
 use Rattle.live.specs.Calls.{isClosed, clearNumber, reportNumber}
 use Rattle.live.specs.declared.Auction.{Auction}
 use Rattle.live.specs.declared.Reply.{Reply}
-use Rattle.live.proofs.Formed.{in-range, range-in}
-
--- no number: the condition fails, and no later number is given
-pub none : (n : ℕ) (a : Bool) (rest : List Refusal) → first (on (suc n) a ∷ rest) ≡ 0 → (a ≡ false) × (first rest ≡ 0)
-unfolding first
-none n true rest e = absurd (omega arith)
-none n false rest e = (refl, e)
 
 -- ---- 11 and 12
 
@@ -66,21 +59,13 @@ module _ (r : Auction) where
       go false b q = q ∙ given 11 true (on 12 b ∷ []) refl ∙ sym (given 11 true (on 12 b ∷ rest) refl)
       go true true q =
           q ∙ passed 11 false (on 12 true ∷ []) refl ∙ given 12 true [] refl ∙ sym (passed 11 false (on 12 true ∷ rest) refl ∙ given 12 true rest refl)
-      go true false q = absurd (ne (q ∙ passed 11 false (on 12 false ∷ []) refl ∙ passed 12 false [] refl ∙ (unfold first in refl)))
+      go true false q = absurd (ne (q ∙ passed 11 false (on 12 false ∷ []) refl ∙ passed 12 false [] refl ∙ first-nil))
 
   pub stands : (x : ℕ) → x ≡ clearNumber r → x ≡ 0 → Stands r
   unfolding clearNumber
   stands x e z = standing [] (sym e ∙ z)
 
 -- ---- 7, 13, 8
-
-bad-low : (n b : ℕ) → b < 1 → badBidder n b ≡ true
-unfolding badBidder
-bad-low n b l = simp (lt-ltb b 1 l)
-
-bad-high : (n b : ℕ) → 1 ≤ b → n < b → badBidder n b ≡ true
-unfolding badBidder
-bad-high n b l h = simp (le-ltb b 1 l, lt-ltb n b h)
 
 module _ (r : Auction) (b : ℕ) (d : Demand) (s : Stands r) where
   abbrev after-7 : List Refusal
@@ -91,10 +76,10 @@ module _ (r : Auction) (b : ℕ) (d : Demand) (s : Stands r) where
   seven e = sym (given 7 (badBidder (r .bidders) b) after-7 e) ∙ later r (on 7 (badBidder (r .bidders) b) ∷ after-7) s
 
   pub seven-low : b < 1 → 7 ≡ reportNumber r b d
-  seven-low l = seven (bad-low (r .bidders) b l)
+  seven-low l = seven (unfold badBidder in under-range (r .bidders) b l)
 
   pub seven-high : 1 ≤ b → r .bidders < b → 7 ≡ reportNumber r b d
-  seven-high l h = seven (bad-high (r .bidders) b l h)
+  seven-high l h = seven (unfold badBidder in over-range (r .bidders) b l h)
 
   module _ (l : 1 ≤ b) (h : b ≤ r .bidders) where
     past-7 : first after-7 ≡ reportNumber r b d
@@ -108,7 +93,7 @@ module _ (r : Auction) (b : ℕ) (d : Demand) (s : Stands r) where
     eight e q = sym (passed 13 (hasReported r b) (on 8 (unfit (r .items) d) ∷ []) e ∙ given 8 (unfit (r .items) d) [] q) ∙ past-7
 
     pub accepted : hasReported r b ≡ false → unfit (r .items) d ≡ false → 0 ≡ reportNumber r b d
-    accepted e q = sym (passed 13 (hasReported r b) (on 8 (unfit (r .items) d) ∷ []) e ∙ passed 8 (unfit (r .items) d) [] q ∙ (unfold first in refl)) ∙ past-7
+    accepted e q = sym (passed 13 (hasReported r b) (on 8 (unfit (r .items) d) ∷ []) e ∙ passed 8 (unfit (r .items) d) [] q ∙ first-nil) ∙ past-7
 
 -- a report that gets no number is of a bidder
 pub of-bidder : (r : Auction) (b : ℕ) (d : Demand) → 0 ≡ reportNumber r b d → (1 ≤ b) × (b ≤ r .bidders)

@@ -1,16 +1,17 @@
--- The first number in order: a condition that fails is passed over, and one that holds gives its number. And when amounts are above 4,095. Assumes nothing.
-use Prim.Native.Nat.{ℕ, _≤_, _<_}
-use mathlib.Core.Path.{_≡_, ap}
-use mathlib.Core.Bool.{Bool, true, false}
-use mathlib.Core.List.{List, _∷_}
+-- The first number in order: a condition that fails is passed over, and one that holds gives its number. And what it says that a condition holds or fails:
+-- a count outside 1 to the top, a length that is not exact, an amount above 4,095. Assumes nothing.
+use Prim.Native.Nat.{ℕ, suc, _≤_, _<_}
+use mathlib.Core.Path.{_≡_, refl, ap}
+use mathlib.Core.Bool.{Bool, true, false, _||_, not}
+use mathlib.Core.List.{List, [], _∷_}
 use mathlib.Core.Logic.{_⊎_, inl, inr}
 use native.Mathlib.Omega.{arith}
-use lib.Dec.{ltb}
+use lib.Dec.{ltb, eqb}
 use lib.ListN.{length, getD}
-use borrow.Author.Tests.{ltb-true, lt-ltb}
+use borrow.Author.Tests.{ltb-true, ltb-false, lt-ltb, le-ltb, eqb-true, eq-eqb, ne-eqb, not-false}
 use Rattle.sets.specs.Count.{anyBelow}
 use Rattle.sets.proofs.Counting.{lt-or-le, any-use, any-make, is-false, not-both}
-use Rattle.rule.specs.Refusal.{Refusal, on, first, anyOver}
+use Rattle.rule.specs.Refusal.{Refusal, on, first, outside, badLength, anyOver}
 
 pub passed : (n : ℕ) (a : Bool) (rest : List Refusal) → a ≡ false → first (on n a ∷ rest) ≡ first rest
 unfolding first
@@ -19,6 +20,48 @@ passed n a rest e = ap (λ (x : Bool). first (on n x ∷ rest)) e
 pub given : (n : ℕ) (a : Bool) (rest : List Refusal) → a ≡ true → first (on n a ∷ rest) ≡ n
 unfolding first
 given n a rest e = ap (λ (x : Bool). first (on n x ∷ rest)) e
+
+pub first-nil : first [] ≡ 0
+unfolding first
+first-nil = refl
+
+-- no number: the condition fails, and no later number is given
+pub none : (n : ℕ) (a : Bool) (rest : List Refusal) → first (on (suc n) a ∷ rest) ≡ 0 → (a ≡ false) × (first rest ≡ 0)
+unfolding first
+none n true rest e = absurd (omega arith)
+none n false rest e = (refl, e)
+
+-- ---- counts outside 1 to the top
+
+pub under-range : (top x : ℕ) → x < 1 → outside top x ≡ true
+under-range top x l = simp (lt-ltb x 1 l)
+
+pub over-range : (top x : ℕ) → 1 ≤ x → top < x → outside top x ≡ true
+over-range top x l h = simp (le-ltb x 1 l, lt-ltb top x h)
+
+pub range-in : (top x : ℕ) → 1 ≤ x → x ≤ top → outside top x ≡ false
+range-in top x l h = simp (le-ltb x 1 l, le-ltb top x h)
+
+pub in-range : (top x : ℕ) → outside top x ≡ false → (1 ≤ x) × (x ≤ top)
+in-range top x e = let w = neither (ltb x 1) (ltb top x) e in (ltb-false x 1 (w .0), ltb-false top x (w .1))
+  where
+    neither : (a b : Bool) → a || b ≡ false → (a ≡ false) × (b ≡ false)
+    neither true b e = absurd (not-both true refl e)
+    neither false b e = (refl, e)
+
+-- ---- lengths
+
+pub inexact : (xs : List ℕ) (n : ℕ) → (length xs ≡ n → ⊥) → badLength xs n ≡ true
+unfolding badLength
+inexact xs n ne = ap not (ne-eqb (length xs) n ne)
+
+pub exact : (xs : List ℕ) (n : ℕ) → length xs ≡ n → badLength xs n ≡ false
+unfolding badLength
+exact xs n e = ap not (eq-eqb (length xs) n e)
+
+pub exact-is : (xs : List ℕ) (n : ℕ) → badLength xs n ≡ false → length xs ≡ n
+unfolding badLength
+exact-is xs n e = eqb-true (length xs) n (not-false (eqb (length xs) n) e)
 
 -- ---- amounts above 4,095
 

@@ -16,13 +16,17 @@ unfoldable pub first : List Refusal → ℕ
 first [] = 0
 first (on n applies ∷ rest) = elim applies [ true ↦ n | false ↦ first rest ]
 
+-- a count x outside 1 to the top
+abbrev pub outside : ℕ → ℕ → Bool
+outside top x = ltb x 1 || ltb top x
+
 -- 1: items outside 1 to 32
 unfoldable pub badItems : ℕ → Bool
-badItems m = ltb m 1 || ltb 32 m
+badItems m = outside 32 m
 
 -- 2: bidders outside 1 to 64
 unfoldable pub badBidders : ℕ → Bool
-badBidders n = ltb n 1 || ltb 64 n
+badBidders n = outside 64 n
 
 -- 3: a lent length that is not exact for the counts
 unfoldable pub badLength : List ℕ → ℕ → Bool
@@ -34,4 +38,4 @@ anyOver xs = anyBelow (length xs) λ k. ltb 4095 (getD xs k 0)
 
 -- 7: a bidder's number b outside 1 to the count n
 unfoldable pub badBidder : ℕ → ℕ → Bool
-badBidder n b = ltb b 1 || ltb n b
+badBidder n b = outside n b

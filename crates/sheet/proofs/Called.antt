@@ -1,19 +1,15 @@
 -- What the sheet asks of the sealed auction, and the number that this gives back: with counts in order and exact lengths, 4 or 5 or none. Assumes nothing.
 use Prim.Native.Nat.{ℕ, zero, suc, _*_}
-use mathlib.Core.Path.{_≡_, refl, ap, _∙_}
-use mathlib.Core.Bool.{false, not}
+use mathlib.Core.Path.{_≡_, refl, _∙_}
+use mathlib.Core.Bool.{false}
 use mathlib.Core.List.{List, [], _∷_}
 use lib.ListN.{length}
-use borrow.Author.Tests.{eq-eqb}
 use Rattle.rule.specs.Sheet.{Sheet}
 use Rattle.rule.specs.Refusal.{on, first, badItems, badBidders, badLength, anyOver}
-use Rattle.rule.proofs.Refusal.{passed}
-use Rattle.auction.specs.Lent.{sheetOf}
-use Rattle.auction.specs.Sealed.{sealedRefusal, refused, closed, outcome, sealedOf}
-
-exact : (xs : List ℕ) (n : ℕ) → length xs ≡ n → badLength xs n ≡ false
-unfolding badLength
-exact xs n e = ap not (eq-eqb (length xs) n e)
+use Rattle.rule.proofs.Refusal.{passed, exact}
+use Rattle.bids.specs.Lent.{sheetOf}
+use Rattle.bids.specs.Refusal.{sealedRefusal}
+use Rattle.auction.specs.Sealed.{refused, closed, outcome, sealedOf}
 
 -- an outcome bears its number
 numbered : (why : ℕ) (s : Sheet) → outcome why s .refusal ≡ why

@@ -1,7 +1,7 @@
 -- An input longer than any bid sheet is judged by its first four bytes: what stands behind byte 8,390 changes no answer. Assumes nothing.
 use Prim.Native.Nat.{ℕ, zero, suc, _+_, _*_, _≤_, _<_}
 use mathlib.Core.Path.{_≡_, refl, sym, ap, _∙_}
-use mathlib.Core.Bool.{Bool, true, false, _||_, cond}
+use mathlib.Core.Bool.{Bool, true, false, cond}
 use mathlib.Core.List.{List, []}
 use mathlib.Core.Option.{Option, none, some, Option·some-injective}
 use native.Mathlib.Omega.{arith}
@@ -10,8 +10,8 @@ use native.Mathlib.Decide.{decLe}
 use lib.Dec.{ltb}
 use lib.ListN.{length, getD, take, getElem?}
 use lib.Seq.{take-all, length-take-le, getD-take}
-use borrow.Author.Tests.{ltb-false}
 use Rattle.rule.specs.Refusal.{badItems, badBidders}
+use Rattle.rule.proofs.Refusal.{in-range}
 use Rattle.digits.specs.Reading.{_>>=_, digitValue, digitAt, numberAt}
 use Rattle.lines.specs.Reading.{lineAt}
 use Rattle.digits.proofs.Stands.{there}
@@ -62,17 +62,13 @@ judged none o = 5
 judged (some m) none = 5
 judged (some m) (some n) = judgedBy (badItems m) (badBidders n)
 
-right : (a b : Bool) → a || b ≡ false → b ≡ false
-right true b e = absurd (let z : _≡_ {A = ℕ} 0 1 = cc in let f : ⊥ = omega arith in f)
-right false b e = e
-
 pub most-items : (m : ℕ) → badItems m ≡ false → m ≤ 32
 unfolding badItems
-most-items m e = ltb-false 32 m (right (ltb m 1) (ltb 32 m) e)
+most-items m e = in-range 32 m e .1
 
 pub most-bidders : (n : ℕ) → badBidders n ≡ false → n ≤ 64
 unfolding badBidders
-most-bidders n e = ltb-false 64 n (right (ltb n 1) (ltb 64 n) e)
+most-bidders n e = in-range 64 n e .1
 
 module _ (bytes : List ℕ) (long : 8390 ≤ length bytes) where
   -- what is read has counts of its own, and is not so long

@@ -1,15 +1,14 @@
 // Bid sheet in, closing sheet out. The sheet's bytes are not copied: reading goes on at a place of the lent bytes.
 use digits::Number;
 ghost use mathlib.Core.Path.{_≡_};
-ghost use mathlib.Core.Bool.{false, _||_};
+ghost use mathlib.Core.Bool.{false};
 ghost use mathlib.Core.Option.{some};
 ghost use Prim.Native.Nat.{_+_, _*_, _^_, _≤_, _<_};
-ghost use lib.Dec.{ltb};
 ghost use lib.ListN.{length, take};
 ghost use Rattle.digits.specs.Reading.{numberIn, asNumber};
 ghost use Rattle.lines.specs.Reading.{endsAt, lineAt};
 ghost use Rattle.lines.specs.Lines.{closingSheet, closingLength, writtenTo};
-ghost use Rattle.rule.specs.Refusal.{badItems, badBidders};
+ghost use Rattle.rule.specs.Refusal.{outside, badItems, badBidders};
 ghost use Rattle.sheet.specs.BidSheet.{itemsIn, biddersIn, bidsAt};
 ghost use Rattle.sheet.specs.Close.{sheetRefusal, byNumber, closedTo, refusalLine, answerOf};
 ghost use Rattle.sheet.specs.Steps.{readAs, Closed};
@@ -115,7 +114,7 @@ fn refused(why: u8) -> Outcome
 
 // Whether a count is outside 1 to the most there may be.
 fn outside(count: u32, most: u32) -> bool
-    ensures { λ r. ⌜ (r ≡ (ltb count 1 || ltb most count)) × (r ≡ false → count ≤ most) ⌝ }
+    ensures { λ r. ⌜ (r ≡ outside most count) × (r ≡ false → count ≤ most) ⌝ }
 {
     if count < 1 {
         return true;

@@ -1,13 +1,6 @@
 -- `auction::demands_at` meets its contract. Each turn collects one bidder's demand. Assumes nothing.
-use Prim.Native.Nat.{ℕ, _-_}
-use mathlib.Core.Path.{ap, _∙_}
-use mathlib.Core.List.{List}
-use native.Mathlib.Omega.{arith}
-use lib.ListN.{length}
-use Rattle.rule.specs.Demand.{demand}
-use Rattle.auction.specs.Lent.{lineOf}
-use Rattle.auction.proofs.Lent.{line-inside, line-length}
-use Rattle.auction.proofs.Demanding.{Collected, collect-start, collect-next, collect-end}
+use Prim.Native.Nat.{_-_}
+use Rattle.auction.proofs.Demanding.{Collected, line-short, collect-start, collect-next, collect-end}
 use borrow.Author.Needs.{needs}
 use Rattle.auction.proofs.demands_at.Statement.{statement}
 use Rattle.auction.proofs.demands_at.Tie as tie
@@ -21,20 +14,16 @@ abbrev μ-loop : tie.MeasureT-loop
 loop-holds : tie.Need-loop-holds Inv-loop μ-loop
 loop-holds c = let a = c .before .args in collect-start (a .items) (a .bidders) (a .prices .now) (a .bids .now)
 
-row-requires : tie.Need-row-requires Inv-loop μ-loop
-row-requires c κs =
-    let a = c .before .before .before .args in
-    let pre = c .before .before .before .pre in
-    let at = c .before .loop in
-    (pre .0, omega (arith, c .loop-test .taken, pre .1), line-inside (a .items) (a .bidders) (at .b) (length (a .bids .now)) (pre .2) (c .loop-test .taken))
+add-line : tie.Need-add-line Inv-loop μ-loop
+add-line c = search needs
+
+line-requires : tie.Need-line-requires Inv-loop μ-loop
+line-requires c κs = search needs
 
 demand-of-requires : tie.Need-demand-of-requires Inv-loop μ-loop
 demand-of-requires c κs =
     let a = c .before .before .before .before .args in
-    let pre = c .before .before .before .before .pre in
-    let at = c .before .before .loop in
-    let inside = line-inside (a .items) (a .bidders) (at .b) (length (a .bids .now)) (pre .2) (c .before .loop-test .taken) in
-    omega (arith, ap length (c .row .ensures) ∙ line-length (a .items) (a .bids .now) (at .b) inside, pre .0)
+    line-short (a .items) (a .bidders) (a .prices .now) (a .bids .now) (c .before .before .before .before .pre) (c .before .before .loop .b) (c .before .loop-test .taken) (c .line .result .now) (c .line .ensures)
 
 mul-sets : tie.Need-mul-sets Inv-loop μ-loop
 mul-sets c = search needs
@@ -57,25 +46,17 @@ loop-less c = search needs
 loop-again : tie.Need-loop-again Inv-loop μ-loop
 loop-again c =
     let a = c .before .before .before .before .before .before .args in
-    let pre = c .before .before .before .before .before .before .pre in
     let at = c .before .before .before .before .loop in
-    let lt = c .before .before .before .loop-test .taken in
-    let long = line-length (a .items) (a .bids .now) (at .b) (line-inside (a .items) (a .bidders) (at .b) (length (a .bids .now)) (pre .2) lt) in
-    let line = c .before .before .row .ensures in
+    let line = c .before .before .line in
     let d = c .before .demand-of in
-    collect-next (a .items) (a .bidders) (a .prices .now) (a .bids .now) (at .sets) (at .nulls) (at .b) (at .inv) lt (pre .1)
-    (d .result .items)
-    (d .ensures .1 ∙ ap (λ (l : List ℕ). demand (length l) (a .prices .now) l .items) line ∙ ap (λ (x : ℕ). demand x (a .prices .now) (lineOf (a .items) (a .bids .now) (at .b)) .items) long)
-    (d .result .null)
-    (d .ensures .0 ∙ ap (λ (l : List ℕ). demand (length l) (a .prices .now) l .null) line ∙ ap (λ (x : ℕ). demand x (a .prices .now) (lineOf (a .items) (a .bids .now) (at .b)) .null) long)
-    (c .add-bidder .result) (c .add-bidder .ensures)
+    collect-next (a .items) (a .bidders) (a .prices .now) (a .bids .now) (c .before .before .before .before .before .before .pre) (at .b) (c .before .before .before .loop-test .taken) (line .result .now) (line .ensures)
+    (at .sets) (at .nulls) (at .inv) (d .result .items) (d .ensures .1) (d .result .null) (d .ensures .0) (c .add-bidder .result) (c .add-bidder .ensures)
 
 returns : tie.Need-returns Inv-loop μ-loop
 returns c =
     let a = c .before .before .before .args in
-    let pre = c .before .before .before .pre in
     let at = c .before .loop in
-    collect-end (a .items) (a .bidders) (a .prices .now) (a .bids .now) (at .sets) (at .nulls) (at .b) (at .inv) (c .loop-test .left) (pre .0) (pre .1)
+    collect-end (a .items) (a .bidders) (a .prices .now) (a .bids .now) (c .before .before .before .pre) (at .sets) (at .nulls) (at .b) (at .inv) (c .loop-test .left)
 
 pub demands-at-spec : {M : Type 1} → statement M
 demands-at-spec =
@@ -84,7 +65,8 @@ demands-at-spec =
     Inv-loop
     μ-loop
     loop-holds
-    row-requires
+    add-line
+    line-requires
     demand-of-requires
     mul-sets
     array-write-sets

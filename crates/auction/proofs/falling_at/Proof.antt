@@ -22,7 +22,7 @@ returns c =
     let a = c .before .before .before .before .before .before .args in
     let d = c .before .before .before .before .demands-at in
     let above = c .before .positive in
-    let e = above .ensures ∙ c .before .before .before .before .before .before .pre .3 in
+    let e = above .ensures ∙ c .before .before .before .before .before .before .pre .1 in
     c .falling .ensures (d .result .nulls)
     ∙ falling-narrow (a .items) (a .bidders) (d .result .sets) (d .ensures .reported) (d .result .nulls) (above .result) (subst (λ (x : ℕ). x < 2 ^ (a .items)) (sym e) (positive-lt (a .items) (a .prices .now)))
     ∙ ap₂ (excessSupply (a .items)) e (d .ensures .same)

@@ -4,8 +4,8 @@ use mathlib.Core.Path.{_≡_}
 use native.Mathlib.Omega.{arith}
 use Rattle.rule.specs.Demand.{demands}
 use Rattle.rule.specs.Excess.{excessDemand}
-use Rattle.auction.specs.Lent.{rowsOf, sheetOf}
-use Rattle.auction.proofs.Lent.{rows-length}
+use Rattle.bids.specs.Lent.{rowsOf, sheetOf}
+use Rattle.auction.proofs.Demanding.{counted}
 use Rattle.auction.proofs.Walking.{Rising, ready, rise-start, rise-early, rise-next, rise-end, ups-most}
 use borrow.Author.Needs.{needs}
 use Rattle.auction.proofs.rise.Statement.{statement}
@@ -22,12 +22,10 @@ in-places-requires : tie.Need-in-places-requires Inv-loop μ-loop
 in-places-requires c κs = search needs
 
 rising-at-requires : tie.Need-rising-at-requires Inv-loop μ-loop
-unfolding sheetOf
 rising-at-requires c κs =
     let a = c .before .before .before .before .args in
     let pre = c .before .before .before .before .pre in
-    let g = ready (sheetOf (a .items) (a .bidders) (a .start .now) (a .bids .now)) (pre .1) in
-    (g .max-items, omega (arith, g .max-bidders, rows-length (a .items) (a .bidders) (a .bids .now)), pre .0)
+    counted (a .items) (a .bidders) (a .start .now) (a .bids .now) (pre .0) (pre .1)
 
 loop-holds : tie.Need-loop-holds Inv-loop μ-loop
 unfolding sheetOf
@@ -49,12 +47,10 @@ add-rounds c =
     omega (arith, ups-most (sheetOf (a .items) (a .bidders) (a .start .now) (a .bids .now)) g, rise-early (sheetOf (a .items) (a .bidders) (a .start .now) (a .bids .now)) g (at .rounds) (at .p) (at .inv .0) (at .set) (at .inv .1) (c .before .before .loop-test .taken))
 
 rising-at-requires-2 : tie.Need-rising-at-requires-2 Inv-loop μ-loop
-unfolding sheetOf
 rising-at-requires-2 c κs =
     let a = c .before .before .before .before .before .before .before .before .before .before .args in
     let pre = c .before .before .before .before .before .before .before .before .before .before .pre in
-    let g = ready (sheetOf (a .items) (a .bidders) (a .start .now) (a .bids .now)) (pre .1) in
-    (g .max-items, omega (arith, g .max-bidders, rows-length (a .items) (a .bidders) (a .bids .now)), pre .0)
+    counted (a .items) (a .bidders) (a .start .now) (a .bids .now) (pre .0) (pre .1)
 
 loop-less : tie.Need-loop-less Inv-loop μ-loop
 unfolding sheetOf

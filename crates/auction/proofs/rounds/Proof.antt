@@ -4,8 +4,8 @@ use mathlib.Core.Path.{_≡_}
 use native.Mathlib.Omega.{arith}
 use Rattle.rule.specs.Demand.{demands}
 use Rattle.rule.specs.Excess.{excessSupply, positive}
-use Rattle.auction.specs.Lent.{rowsOf, sheetOf}
-use Rattle.auction.proofs.Lent.{rows-length}
+use Rattle.bids.specs.Lent.{rowsOf, sheetOf}
+use Rattle.auction.proofs.Demanding.{counted}
 use Rattle.auction.proofs.Walking.{Falling, ready, path-long, past-items, fall-start, fall-early, fall-next, fall-end, downs-most}
 use borrow.Author.Needs.{needs}
 use Rattle.auction.proofs.rounds.Statement.{statement}
@@ -28,7 +28,7 @@ falling-at-requires c κs =
     let pre = c .before .before .before .before .before .pre in
     let g = ready (sheetOf (a .items) (a .bidders) (a .start .now) (a .bids .now)) (pre .1) in
     let top = c .before .before .rise in
-    (g .max-items, omega (arith, g .max-bidders, rows-length (a .items) (a .bidders) (a .bids .now)), pre .0, past-items (sheetOf (a .items) (a .bidders) (a .start .now) (a .bids .now)) g _ (path-long (sheetOf (a .items) (a .bidders) (a .start .now) (a .bids .now)) (g .long) _) (top .result .prices) (top .ensures .1))
+    (counted (a .items) (a .bidders) (a .start .now) (a .bids .now) (pre .0) (pre .1), past-items (sheetOf (a .items) (a .bidders) (a .start .now) (a .bids .now)) g _ (path-long (sheetOf (a .items) (a .bidders) (a .start .now) (a .bids .now)) (g .long) _) (top .result .prices) (top .ensures .1))
 
 loop-holds : tie.Need-loop-holds Inv-loop μ-loop
 loop-holds c =
@@ -57,7 +57,7 @@ falling-at-requires-2 c κs =
     let at = c .before .before .before .before .loop in
     let g = ready (sheetOf (a .items) (a .bidders) (a .start .now) (a .bids .now)) (pre .1) in
     let next = fall-next (sheetOf (a .items) (a .bidders) (a .start .now) (a .bids .now)) g (c .before .before .before .before .before .before .before .before .rise .result .rounds) (at .downs) (at .p) (at .inv .0) (at .set) (at .inv .1) (c .before .before .before .loop-test .taken) (c .before .lowered .result) (c .before .lowered .ensures) in
-    (g .max-items, omega (arith, g .max-bidders, rows-length (a .items) (a .bidders) (a .bids .now)), pre .0, past-items (sheetOf (a .items) (a .bidders) (a .start .now) (a .bids .now)) g _ (path-long (sheetOf (a .items) (a .bidders) (a .start .now) (a .bids .now)) (g .long) _) (c .before .lowered .result) (next .here))
+    (counted (a .items) (a .bidders) (a .start .now) (a .bids .now) (pre .0) (pre .1), past-items (sheetOf (a .items) (a .bidders) (a .start .now) (a .bids .now)) g _ (path-long (sheetOf (a .items) (a .bidders) (a .start .now) (a .bids .now)) (g .long) _) (c .before .lowered .result) (next .here))
 
 loop-less : tie.Need-loop-less Inv-loop μ-loop
 unfolding sheetOf

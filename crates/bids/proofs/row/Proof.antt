@@ -1,12 +1,12 @@
--- `auction::row` meets its contract. Assumes nothing.
+-- `bids::row` meets its contract. Assumes nothing.
 use Prim.Native.Nat.{ℕ, _+_, _-_, _*_}
 use mathlib.Core.Path.{_≡_, ap}
 use native.Mathlib.Omega.{arith}
 use lib.ListN.{take, drop}
-use Rattle.auction.specs.Lent.{lineOf}
+use Rattle.bids.specs.Lent.{lineOf}
 use borrow.Author.Needs.{needs}
-use Rattle.auction.proofs.row.Statement.{statement}
-use Rattle.auction.proofs.row.Tie as tie
+use Rattle.bids.proofs.row.Statement.{statement}
+use Rattle.bids.proofs.row.Tie as tie
 
 mul-start : tie.Need-mul-start
 mul-start c = search needs

@@ -1,10 +1,10 @@
--- `auction::bid_count` meets its contract. Assumes nothing.
+-- `bids::bid_count` meets its contract. Assumes nothing.
 use Prim.Native.Nat.{_*_, _≤_}
 use native.Mathlib.Omega.{arith}
 use native.Mathlib.Nat.{mul-le-mul}
 use borrow.Author.Needs.{needs}
-use Rattle.auction.proofs.bid_count.Statement.{statement}
-use Rattle.auction.proofs.bid_count.Tie as tie
+use Rattle.bids.proofs.bid_count.Statement.{statement}
+use Rattle.bids.proofs.bid_count.Tie as tie
 
 mul-result : tie.Need-mul-result
 mul-result c = let l : c .args .bidders * c .args .items ≤ 64 * 32 = mul-le-mul (c .pre .1) (c .pre .0) in omega (arith, l)

@@ -1,79 +1,21 @@
 -- No number turns a sheet down if and only if the bids have their exact length and the sheet is within the limits. Assumes nothing.
 use Prim.Native.Nat.{ℕ, suc, _+_, _*_, _/_, _%_, _≤_, _<_}
-use mathlib.Core.Path.{_≡_, refl, sym, ap, _∙_, subst}
-use mathlib.Core.Bool.{Bool, true, false, _||_, not, true≢false}
-use mathlib.Core.List.{List, [], _∷_}
-use mathlib.Core.Logic.{_⊎_, inl, inr}
+use mathlib.Core.Path.{_≡_, sym, ap, _∙_, subst}
+use mathlib.Core.Bool.{true}
+use mathlib.Core.List.{List}
 use native.Mathlib.Omega.{arith}
 use native.Mathlib.Nat.{mod-lt, div-add-mod', div-lt-iff-lt-mul}
-use lib.Dec.{ltb, leb, eqb}
+use lib.Dec.{leb, eqb}
 use lib.ListN.{length, getD}
-use borrow.Author.Tests.{ltb-true, ltb-false, le-ltb, lt-ltb, le-leb, eqb-true, eq-eqb, ne-eqb, not-false}
-use Rattle.sets.specs.Count.{anyBelow}
-use Rattle.sets.proofs.Counting.{lt-or-le, all-make, any-use, any-make, and-both, is-false, not-both}
+use borrow.Author.Tests.{le-leb, eq-eqb}
+use Rattle.sets.proofs.Counting.{all-make, and-both}
 use Rattle.rule.specs.Sheet.{amount, row, each4095, withinLimits}
-use Rattle.rule.specs.Refusal.{Refusal, on, first, badItems, badBidders, badLength, anyOver, badBidder}
+use Rattle.rule.specs.Refusal.{badItems, badBidders, badLength, anyOver}
 use Rattle.rule.proofs.Limits.{Limits, limits}
-use Rattle.rule.proofs.Refusal.{passed, given, none-over, over-not}
-use Rattle.auction.specs.Lent.{lineOf, rowsOf, sheetOf}
-use Rattle.auction.specs.Sealed.{sealedRefusal}
-use Rattle.auction.proofs.Lent.{rows-length, row-at, line-inside, line-length, line-at}
-
--- ---- what it says that a condition fails
-
-pub first-nil : 0 ≡ first []
-unfolding first
-first-nil = refl
-
--- the first number is 0 only if no condition holds
-pub none-first : (n : ℕ) (a : Bool) (rest : List Refusal) → first (on (suc n) a ∷ rest) ≡ 0 → (a ≡ false) × (first rest ≡ 0)
-none-first n a rest e = go a refl
-  where
-    go : (b : Bool) → a ≡ b → (a ≡ false) × (first rest ≡ 0)
-    go true q = absurd (let no : ⊥ = omega (arith, sym (given (suc n) a rest q) ∙ e) in no)
-    go false q = (q, sym (passed (suc n) a rest q) ∙ e)
-
-neither : (a b : Bool) → a || b ≡ false → (a ≡ false) × (b ≡ false)
-neither true b e = absurd (true≢false e)
-neither false b e = (refl, e)
-
-either-not : (a b : Bool) → a ≡ false → b ≡ false → a || b ≡ false
-either-not true b p q = p
-either-not false b p q = q
-
-pub good-items : (m : ℕ) → badItems m ≡ false → (1 ≤ m) × (m ≤ 32)
-unfolding badItems
-good-items m e = let w = neither (ltb m 1) (ltb 32 m) e in (ltb-false m 1 (w .0), ltb-false 32 m (w .1))
-
-pub good-bidders : (n : ℕ) → badBidders n ≡ false → (1 ≤ n) × (n ≤ 64)
-unfolding badBidders
-good-bidders n e = let w = neither (ltb n 1) (ltb 64 n) e in (ltb-false n 1 (w .0), ltb-false 64 n (w .1))
-
-pub good-bidder : (n b : ℕ) → badBidder n b ≡ false → (1 ≤ b) × (b ≤ n)
-unfolding badBidder
-good-bidder n b e = let w = neither (ltb b 1) (ltb n b) e in (ltb-false b 1 (w .0), ltb-false n b (w .1))
-
-pub good-length : (xs : List ℕ) (n : ℕ) → badLength xs n ≡ false → length xs ≡ n
-unfolding badLength
-good-length xs n e = eqb-true (length xs) n (not-false (eqb (length xs) n) e)
-
--- ---- and how a condition fails or holds
-
-items-good : (m : ℕ) → 1 ≤ m → m ≤ 32 → badItems m ≡ false
-unfolding badItems
-items-good m l h = either-not (ltb m 1) (ltb 32 m) (le-ltb m 1 l) (le-ltb 32 m h)
-
-bidders-good : (n : ℕ) → 1 ≤ n → n ≤ 64 → badBidders n ≡ false
-unfolding badBidders
-bidders-good n l h = either-not (ltb n 1) (ltb 64 n) (le-ltb n 1 l) (le-ltb 64 n h)
-
-pub length-good : (xs : List ℕ) (n : ℕ) → length xs ≡ n → badLength xs n ≡ false
-unfolding badLength
-length-good xs n e = ap not (eq-eqb (length xs) n e)
-
-pub length-bad : (xs : List ℕ) (n : ℕ) → (length xs ≡ n → ⊥) → badLength xs n ≡ true
-unfolding badLength
-length-bad xs n ne = ap not (ne-eqb (length xs) n ne)
+use Rattle.rule.proofs.Refusal.{passed, none, first-nil, in-range, range-in, exact, exact-is, none-over, over-not}
+use Rattle.bids.specs.Lent.{lineOf, rowsOf, sheetOf}
+use Rattle.bids.specs.Refusal.{sealedRefusal}
+use Rattle.bids.proofs.Lent.{rows-length, row-at, line-inside, line-length, line-at}
 
 -- ---- a sheet that no number turns down
 
@@ -89,35 +31,35 @@ pub record Fine (m n : ℕ) (start bids : List ℕ) : Type 0 where
 
 module _ (m n : ℕ) (start bids : List ℕ) where
   pub fine : sealedRefusal m n start bids ≡ 0 → Fine m n start bids
-  unfolding sealedRefusal
+  unfolding sealedRefusal badItems badBidders
   fine e =
-      let a = none-first 0 (badItems m) _ e in
-      let b = none-first 1 (badBidders n) _ (a .1) in
-      let c = none-first 2 (badLength start m) _ (b .1) in
-      let d = none-first 2 (badLength bids (n * m)) _ (c .1) in
-      let f = none-first 3 (anyOver start) _ (d .1) in
-      let g = none-first 4 (anyOver bids) _ (f .1) in
+      let a = none 0 (badItems m) _ e in
+      let b = none 1 (badBidders n) _ (a .1) in
+      let c = none 2 (badLength start m) _ (b .1) in
+      let d = none 2 (badLength bids (n * m)) _ (c .1) in
+      let f = none 3 (anyOver start) _ (d .1) in
+      let g = none 4 (anyOver bids) _ (f .1) in
       record {
-        some-item = good-items m (a .0) .0;
-        max-items = good-items m (a .0) .1;
-        some-bidder = good-bidders n (b .0) .0;
-        max-bidders = good-bidders n (b .0) .1;
-        start-long = good-length start m (c .0);
-        bids-long = good-length bids (n * m) (d .0);
+        some-item = in-range 32 m (a .0) .0;
+        max-items = in-range 32 m (a .0) .1;
+        some-bidder = in-range 64 n (b .0) .0;
+        max-bidders = in-range 64 n (b .0) .1;
+        start-long = exact-is start m (c .0);
+        bids-long = exact-is bids (n * m) (d .0);
         starts = none-over start (f .0);
         amounts = none-over bids (g .0);
       }
 
   not-refused : Fine m n start bids → sealedRefusal m n start bids ≡ 0
-  unfolding sealedRefusal
+  unfolding sealedRefusal badItems badBidders
   not-refused f =
-      passed 1 (badItems m) _ (items-good m (f .some-item) (f .max-items))
-      ∙ passed 2 (badBidders n) _ (bidders-good n (f .some-bidder) (f .max-bidders))
-      ∙ passed 3 (badLength start m) _ (length-good start m (f .start-long))
-      ∙ passed 3 (badLength bids (n * m)) _ (length-good bids (n * m) (f .bids-long))
+      passed 1 (badItems m) _ (range-in 32 m (f .some-item) (f .max-items))
+      ∙ passed 2 (badBidders n) _ (range-in 64 n (f .some-bidder) (f .max-bidders))
+      ∙ passed 3 (badLength start m) _ (exact start m (f .start-long))
+      ∙ passed 3 (badLength bids (n * m)) _ (exact bids (n * m) (f .bids-long))
       ∙ passed 4 (anyOver start) _ (over-not start (f .starts))
       ∙ passed 5 (anyOver bids) _ (over-not bids (f .amounts))
-      ∙ sym first-nil
+      ∙ first-nil
 
   -- ---- it is within the limits
 

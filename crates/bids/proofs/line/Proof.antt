@@ -1,10 +1,10 @@
--- `auction::line` meets its contract. Assumes nothing.
+-- `bids::line` meets its contract. Assumes nothing.
 use mathlib.Core.Path.{sym, _∙_}
 use native.Mathlib.Omega.{arith}
-use Rattle.auction.proofs.Showing.{asked, line-none, line-is}
+use Rattle.bids.proofs.Showing.{asked, line-none, line-is}
 use borrow.Author.Needs.{needs}
-use Rattle.auction.proofs.line.Statement.{statement}
-use Rattle.auction.proofs.line.Tie as tie
+use Rattle.bids.proofs.line.Statement.{statement}
+use Rattle.bids.proofs.line.Tie as tie
 
 line-refusal-requires : tie.Need-line-refusal-requires
 line-refusal-requires c κs = search needs
@@ -22,9 +22,6 @@ sub-row c =
     let a = c .before .before .before .args in
     let s = asked (a .items) (a .bidders) (a .bidder) (a .bids .now) (sym (c .before .line-refusal .ensures) ∙ c .if1 .left) in
     omega (arith, s .some)
-
-cast-row : tie.Need-cast-row
-cast-row c = search needs
 
 row-requires : tie.Need-row-requires
 row-requires c κs =
@@ -45,6 +42,5 @@ line-spec =
     slice-aggregate-result
     returns
     sub-row
-    cast-row
     row-requires
     returns-2)

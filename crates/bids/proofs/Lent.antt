@@ -8,7 +8,7 @@ use lib.ListN.{length, getD, drop, length-drop}
 use lib.Seq.{length-take-le, getD-take, getD-drop}
 use Rattle.sets.proofs.Lists.{tabulate-length, tabulate-at}
 use Rattle.rule.specs.Sheet.{row}
-use Rattle.auction.specs.Lent.{lineOf, rowsOf}
+use Rattle.bids.specs.Lent.{lineOf, rowsOf}
 
 pub rows-length : (m n : ℕ) (bids : List ℕ) → length (rowsOf m n bids) ≡ n
 unfolding rowsOf

@@ -2,7 +2,7 @@
 use Prim.Native.Nat.{ℕ, zero, suc, _-_, _*_}
 use mathlib.Core.List.{List, [], _∷_}
 use Rattle.rule.specs.Refusal.{on, first, badItems, badBidders, badLength, badBidder}
-use Rattle.auction.specs.Lent.{lineOf}
+use Rattle.bids.specs.Lent.{lineOf}
 
 -- the number that turns the asking for bidder b's line down, or 0: 1, 2, 3, 7
 unfoldable pub lineRefusal : ℕ → ℕ → ℕ → List ℕ → ℕ

@@ -1,0 +1,57 @@
+-- A bidder's line: what its number says, and the part that is shown. Assumes nothing.
+use Prim.Native.Nat.{ℕ, zero, suc, _+_, _-_, _*_, _≤_, _<_}
+use mathlib.Core.Path.{_≡_, refl, sym, ap, _∙_}
+use mathlib.Core.List.{List, []}
+use native.Mathlib.Omega.{arith}
+use lib.ListN.{length}
+use Rattle.rule.specs.Refusal.{badItems, badBidders, badLength, badBidder}
+use Rattle.rule.proofs.Refusal.{passed, none, first-nil, in-range, range-in, exact, exact-is}
+use Rattle.bids.specs.Lent.{lineOf}
+use Rattle.bids.specs.Line.{lineRefusal, shown, lineShown}
+use Rattle.bids.proofs.Lent.{line-inside}
+
+module _ (m n b : ℕ) (bids : List ℕ) where
+  -- what holds where no number turns the asking down
+  pub record Asked : Type 0 where
+    pub max-items : m ≤ 32
+    pub some : 1 ≤ b
+    pub most : b ≤ 64
+    pub inside : (b - 1) * m + m ≤ length bids
+
+  pub asked : lineRefusal m n b bids ≡ 0 → Asked
+  unfolding lineRefusal badItems badBidders badBidder
+  asked e =
+      let p = none 0 (badItems m) _ e in
+      let q = none 1 (badBidders n) _ (p .1) in
+      let r = none 2 (badLength bids (n * m)) _ (q .1) in
+      let s = none 6 (badBidder n b) _ (r .1) in
+      let g = in-range n b (s .0) in
+      let l = in-range 64 n (q .0) in
+      record {
+        max-items = in-range 32 m (p .0) .1;
+        some = g .0;
+        most = omega (arith, g .1, l .1);
+        inside = line-inside m n (b - 1) (length bids) (exact-is bids (n * m) (r .0)) (omega (arith, g .0, g .1));
+      }
+
+  pub line-none : (why : ℕ) → why ≡ lineRefusal m n b bids → (why ≡ 0 → ⊥) → [] ≡ lineShown m n b bids
+  unfolding lineShown shown
+  line-none why e ne = go why ne ∙ ap (λ (y : ℕ). shown y (lineOf m bids (b - 1))) e
+    where
+      go : (x : ℕ) → (x ≡ 0 → ⊥) → [] ≡ shown x (lineOf m bids (b - 1))
+      go zero h = absurd (h refl)
+      go (suc k) h = refl
+
+  pub line-is : lineRefusal m n b bids ≡ 0 → lineOf m bids (b - 1) ≡ lineShown m n b bids
+  unfolding lineShown shown
+  line-is e = ap (λ (y : ℕ). shown y (lineOf m bids (b - 1))) (sym e)
+
+-- the line of the bidder at place b, where the counts and the length are in order
+pub line-there : (m n b : ℕ) (bids : List ℕ) → 1 ≤ m → m ≤ 32 → n ≤ 64 → length bids ≡ n * m → b < n → lineShown m n (b + 1) bids ≡ lineOf m bids b
+unfolding lineRefusal badItems badBidders badBidder
+line-there m n b bids lm hm hn e l =
+    let fine : lineRefusal m n (b + 1) bids ≡ 0 =
+    passed 1 (badItems m) _ (range-in 32 m lm hm) ∙ passed 2 (badBidders n) _ (range-in 64 n (omega arith) hn)
+    ∙ passed 3 (badLength bids (n * m)) _ (exact bids (n * m) e) ∙ passed 7 (badBidder n (b + 1)) _ (range-in n (b + 1) (omega arith) (omega arith)) ∙ first-nil in
+    let at : b + 1 - 1 ≡ b = omega arith in
+    sym (line-is m n (b + 1) bids fine) ∙ ap (lineOf m bids) at
