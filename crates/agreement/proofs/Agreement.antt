@@ -26,7 +26,7 @@ use Rattle.agreement.specs.Calls.{Call, reporting, ending, clearing, rea
 use Rattle.agreement.specs.Machine.{Machine, begin, at, phase, phaseOf, Outcome, answers, leaves, machine, MachineRan, ran, left, behind, machineRun}
 use Rattle.agreement.specs.Agreement.{openingOf, liveRun, standsFor, allRounds, never, ClosedAs, Agrees}
 use Rattle.agreement.proofs.Along.{closes-at, not-sooner}
-use Rattle.live.proofs.Formed.{over-not}
+use Rattle.live.proofs.Formed.{not-any-over}
 use Rattle.agreement.proofs.Always.{Sound, keeps, keeps-all, never-eleven, open-sound}
 use Rattle.agreement.proofs.Counted.{rounds-are}
 use Rattle.agreement.proofs.Follows.{Good, Follows, no-nulls, no-reported, no-sets}
@@ -53,7 +53,7 @@ module _ (s : Sheet) (lim : Limits s) where
   unfolding openingOf
   opens-as =
       accepts m n (s .start) (unfold badItems in range-in 32 m (lim .some-item) (lim .max-items)) (unfold badBidders in range-in 64 n (lim .some-bidder) (lim .max-bidders))
-      (lim .start .long) (over-not (s .start) (lim .start .most))
+      (lim .start .long) (not-any-over (s .start) (lim .start .most))
 
   opened-is : opened m n (s .start) ≡ standsFor s begin
   unfolding opened standsFor begin at phase phaseOf path after opening

@@ -1,7 +1,6 @@
 -- The number of the call into lent lists, from that of the auction and whether the lists fit. Assumes nothing.
-use Prim.Native.Nat.{ℕ, _*_}
 use mathlib.Core.Path.{_≡_, refl}
-use mathlib.Core.Bool.{Bool, true, false, _||_}
+use mathlib.Core.Bool.{Bool, true, false}
 use mathlib.Core.List.{[], _∷_}
 use Rattle.rule.specs.Refusal.{on, first}
 use Rattle.dewgneiss.specs.Lent.{withLengths}

@@ -1,9 +1,8 @@
 -- The sealed auction into lent lists: which number turns the call down. Assumes nothing: these are definitions.
 use Prim.Native.Nat.{ℕ, _*_}
-use mathlib.Core.Bool.{Bool, _||_, cond, not}
+use mathlib.Core.Bool.{Bool, _||_, cond}
 use mathlib.Core.List.{List, [], _∷_}
 use lib.Dec.{eqb}
-use lib.ListN.{length}
 use Rattle.rule.specs.Refusal.{on, first, badItems, badBidders, badLength, anyOver}
 
 -- the lists lent for the results are not exact: two rounds, a price for each item, an option for each bidder

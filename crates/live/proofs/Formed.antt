@@ -5,36 +5,22 @@ use mathlib.Core.Bool.{Bool, true, false, _&&_, _||_, not}
 use mathlib.Core.List.{List}
 use native.Mathlib.Omega.{arith}
 use native.Mathlib.Decide.{decLe}
-use lib.Dec.{eqb, leb, ltb}
+use lib.Dec.{eqb, leb}
 use lib.ListN.{length, getD, List·getD-eq-default}
-use borrow.Author.Tests.{ltb-false, le-ltb, le-leb, leb-true, eqb-true, eq-eqb}
-use Rattle.sets.specs.Count.{_⇒_, anyBelow}
-use Rattle.sets.proofs.Counting.{and-left, and-right, and-both, all-use, all-make, any-use, any-make, imp-use, imp-make, is-false, not-both, not-is}
+use borrow.Author.Tests.{le-leb, leb-true, eqb-true, eq-eqb}
+use Rattle.sets.specs.Count.{_⇒_}
+use Rattle.sets.proofs.Counting.{and-left, and-right, and-both, all-use, all-make, imp-use, imp-make, not-both, not-is}
 use Rattle.rule.specs.Sheet.{amount}
 use Rattle.rule.specs.Refusal.{badItems, badBidders, anyOver}
+use Rattle.rule.proofs.Refusal.{in-range, range-in, none-over, over-not}
 use Rattle.reports.specs.Report.{isEmpty, beyond, unfit}
 use Rattle.live.specs.Auction.{place, hasReported, countsFit, pricesFit, unusedPrices, unusedPlaces, unusedBits, reportedFit, othersEmpty, roundsFit, closeFits, wellFormed}
 use Rattle.live.specs.Tidy.{Tidy}
 use Rattle.live.specs.declared.Auction.{Auction}
 
-pub or-left-false : (a b : Bool) → a || b ≡ false → a ≡ false
-or-left-false false b e = refl
-or-left-false true b e = e
-
 pub or-right-false : (a b : Bool) → a || b ≡ false → b ≡ false
 or-right-false false b e = e
 or-right-false true b e = absurd (not-both true refl e)
-
-pub or-both-false : (a b : Bool) → a ≡ false → b ≡ false → a || b ≡ false
-or-both-false false b e h = h
-or-both-false true b e h = e
-
--- a count in its range
-pub in-range : (top x : ℕ) → ltb x 1 || ltb top x ≡ false → (1 ≤ x) × (x ≤ top)
-in-range top x e = (ltb-false x 1 (or-left-false (ltb x 1) (ltb top x) e), ltb-false top x (or-right-false (ltb x 1) (ltb top x) e))
-
-pub range-in : (top x : ℕ) → 1 ≤ x → x ≤ top → ltb x 1 || ltb top x ≡ false
-range-in top x l h = or-both-false (ltb x 1) (ltb top x) (le-ltb x 1 l) (le-ltb top x h)
 
 -- no price is above 4,095
 pub not-over : (xs : List ℕ) → anyOver xs ≡ false → (i : ℕ) → amount xs i ≤ 4095
@@ -43,16 +29,10 @@ not-over xs e (suc k) = unfold amount in go (decLe (length xs) k)
   where
     go : Dec (length xs ≤ k) → getD xs k 0 ≤ 4095
     go (yes l) = let z : getD xs k 0 ≡ 0 = List·getD-eq-default xs 0 l in omega arith
-    go (no l) =
-        ltb-false 4095 (getD xs k 0)
-        (is-false (ltb 4095 (getD xs k 0)) (λ h. not-both (anyOver xs) (unfold anyOver in any-make (length xs) (λ k. ltb 4095 (getD xs k 0)) k (omega arith) h) e))
+    go (no l) = none-over xs e k (omega arith)
 
-pub over-not : (xs : List ℕ) → ((i : ℕ) → amount xs i ≤ 4095) → anyOver xs ≡ false
-unfolding anyOver
-over-not xs h = is-false (anyBelow (length xs) (λ k. ltb 4095 (getD xs k 0))) (λ e. by (any-use (length xs) (λ k. ltb 4095 (getD xs k 0)) e))
-  where
-    by : (k : ℕ) × (k < length xs) × (ltb 4095 (getD xs k 0) ≡ true) → ⊥
-    by (k, l, e) = not-both (ltb 4095 (getD xs k 0)) e (le-ltb 4095 (getD xs k 0) (unfold amount in h (suc k)))
+pub not-any-over : (xs : List ℕ) → ((i : ℕ) → amount xs i ≤ 4095) → anyOver xs ≡ false
+not-any-over xs h = over-not xs (λ k l. unfold amount in h (suc k))
 
 pub record Formed (r : Auction) : Type 0 where
   pub some-item : 1 ≤ r .items
@@ -150,7 +130,7 @@ module _ (r : Auction) where
 
   prices-make : ((i : ℕ) → amount (r .prices) i ≤ 4095) → pricesFit r ≡ true
   unfolding pricesFit
-  prices-make h = ap not (over-not (r .prices) h)
+  prices-make h = ap not (not-any-over (r .prices) h)
 
   pub past-items-use : unusedPrices r ≡ true → (k : ℕ) → k < 32 → r .items ≤ k → amount (r .prices) (suc k) ≡ 0
   unfolding unusedPrices
