@@ -18,7 +18,7 @@ fn put_rounds(out: &mut [u8], raised: u32, lowered: u32)
     out[12] = b'\n';
 }
 
-// A price and an option as a number to be written.
+// A price and an option as a number to write: of a parameter it is known that it fits, of an element of a lent array it is not.
 fn wide_price(price: u16) -> u32
     ensures { λ r. ⌜ r ≡ price ⌝ }
 {
@@ -65,15 +65,15 @@ pub fn closing_length(items: u32, bidders: u32) -> usize
 }
 
 // Writes the closing sheet's three lines to the front of `out` and answers true. Where there is no room for them, or the counts are beyond
-// 32 and 64, it answers false and leaves `out` as it came.
-pub fn write_closing(
+// 32 and 64, it answers false and leaves `out` as it came. Prices and options have one lifetime, so that they may be fields of one struct.
+pub fn write_closing<'a>(
     out: &mut [u8],
     items: u32,
     bidders: u32,
     raised: u32,
     lowered: u32,
-    prices: &[u16; 32],
-    options: &[u8; 64],
+    prices: &'a [u16; 32],
+    options: &'a [u8; 64],
 ) -> bool
     ensures { λ r. ⌜ (r ≡ writes items bidders (length (now (out .entry))))
         × (now (out .exit) ≡ afterClosing items bidders raised lowered (now (prices .entry)) (now (options .entry)) (now (out .entry))) ⌝ }

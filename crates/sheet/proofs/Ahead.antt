@@ -1,11 +1,12 @@
 -- What has been read stands ahead of what is left to read: numbers of a line, and lines of bids. Assumes nothing.
 use Prim.Native.Nat.{ℕ, zero, suc, _+_, _*_, _-_, _≤_, _<_}
 use mathlib.Core.Path.{_≡_, refl, sym, ap, _∙_}
-use mathlib.Core.Bool.{Bool, cond}
+use mathlib.Core.Bool.{Bool, true, false, not, cond}
 use mathlib.Core.List.{List, [], _∷_, _++_, append-assoc, append-nil}
 use mathlib.Core.Option.{Option, none, some}
 use native.Mathlib.Omega.{arith}
 use native.Mathlib.Nat.{lt-irrefl}
+use borrow.Author.Tests.{not-true, not-false}
 use Rattle.digits.specs.Reading.{_>>=_, numberAt}
 use Rattle.lines.specs.Reading.{numbersAt, endsAt, lineAt}
 use Rattle.digits.proofs.Gives.{gives}
@@ -22,6 +23,14 @@ ahead-none (some ys) = refl
 pub ahead-both : (xs ys : List ℕ) (o : Option (List ℕ)) → ahead xs (ahead ys o) ≡ ahead (xs ++ ys) o
 ahead-both xs ys none = refl
 ahead-both xs ys (some zs) = ap {B = Option (List ℕ)} some (sym (append-assoc xs ys zs))
+
+-- ---- what was read, by the answer of the call that reads: no is none, and yes is some
+
+pub said-no : (o : Option (List ℕ)) (t : Bool) (xs : List ℕ) → o ≡ readAs t xs → not t ≡ true → o ≡ none
+said-no o t xs e n = e ∙ ap (λ (b : Bool). readAs b xs) (not-true t n)
+
+pub said-yes : (o : Option (List ℕ)) (t : Bool) (xs : List ℕ) → o ≡ readAs t xs → not t ≡ false → o ≡ some xs
+said-yes o t xs e n = e ∙ ap (λ (b : Bool). readAs b xs) (not-false t n)
 
 -- ---- the numbers of a line
 

@@ -1,21 +1,23 @@
 -- How closing a sheet ends: turned down, or by the sealed auction. Assumes nothing.
-use Prim.Native.Nat.{ℕ, zero, suc, _+_, _*_, _≤_}
+use Prim.Native.Nat.{ℕ, zero, suc, _*_, _≤_, _<_}
 use mathlib.Core.Path.{_≡_, refl, sym, ap, _∙_}
-use mathlib.Core.Bool.{false}
+use mathlib.Core.Bool.{true, false}
 use mathlib.Core.List.{List}
-use mathlib.Core.Option.{some}
+use native.Mathlib.Omega.{arith}
+use lib.Dec.{ltb}
 use lib.ListN.{length}
+use borrow.Author.Tests.{lt-ltb, le-ltb}
 use Rattle.rule.specs.Refusal.{badItems, badBidders}
-use Rattle.lines.specs.Lines.{closingSheet, closingLength, writtenTo}
-use Rattle.lines.specs.Reading.{lineAt}
+use Rattle.rule.proofs.Refusal.{passed, given}
+use Rattle.lines.specs.Lines.{closingSheet, closingLength, writtenTo, writes, afterClosing}
 use Rattle.lines.proofs.Lengths.{closing-length}
+use Rattle.lines.proofs.Written.{changed}
 use Rattle.auction.specs.Sealed.{sealedOf}
 use Rattle.auction.specs.declared.Closing.{Closing}
-use Rattle.sheet.specs.BidSheet.{BidSheet, itemsIn, biddersIn, bidsAt}
+use Rattle.sheet.specs.BidSheet.{BidSheet}
 use Rattle.sheet.specs.Close.{bidSheetOf, sheetRefusal, closingOf, byNumber, closedTo}
-use Rattle.sheet.specs.Steps.{Closed}
+use Rattle.sheet.specs.Steps.{readRefusal, ClosedRead, Closed}
 use Rattle.sheet.specs.declared.Outcome.{Outcome}
-use Rattle.sheet.proofs.Order.{sheet-is, by-amounts}
 use Rattle.sheet.proofs.Called.{by-amounts-alone}
 
 pub by-some : {A : Type 0} (why : ℕ) → (why ≡ 0 → ⊥) → (a b : A) → byNumber why a b ≡ b
@@ -33,36 +35,64 @@ turned-down bytes out r why e f g =
       lent = ap (λ (k : ℕ). byNumber k (writtenTo out (closingOf (bidSheetOf bytes))) out) (sym e);
     }
 
--- the sealed auction decides
-module _ (bytes out : List ℕ) (m n : ℕ) (start bids : List ℕ) where
-  pub by-auction : (c : Closing) (r : Outcome) (after : List ℕ)
-      → itemsIn bytes ≡ some m → biddersIn bytes ≡ some n → badItems m ≡ false → badBidders n ≡ false
-      → lineAt m 4 bytes 4 ≡ some start → bidsAt n m bytes (5 + 4 * m) ≡ some bids → length start ≡ m → length bids ≡ n * m
-      → closingLength m n ≤ length out
-      → c ≡ sealedOf m n start bids
-      → r .refusal ≡ c .refusal
-      → r .length ≡ byNumber (c .refusal) (closingLength m n) 0
-      → after ≡ byNumber (c .refusal) (writtenTo out (closingSheet m n (c .raised) (c .lowered) (c .prices) (c .assignment))) out
-      → Closed bytes out r after
-  unfolding closedTo closingOf
-  by-auction c r after ei eb gi gb es ed ls ld room is number written lent =
-      let s : BidSheet = record { items = m; bidders = n; start = start; bids = bids } in
-      let z : Closing = sealedOf m n start bids in
-      let same : bidSheetOf bytes ≡ s = sheet-is bytes (length out) m ei n eb gi gb start es bids ed in
-      let e : c .refusal ≡ sheetRefusal bytes (length out) =
-      ap (λ (x : Closing). x .refusal) is
-      ∙ by-amounts-alone m n start bids gi gb ls ld
-      ∙ sym (by-amounts bytes (length out) m ei n eb gi gb start es bids ed room) in
+-- a sheet that was read comes out as its bytes do
+pub by-read : (bytes out : List ℕ) (s : BidSheet) (r : Outcome) (after : List ℕ) → bidSheetOf bytes ≡ s → sheetRefusal bytes (length out) ≡ readRefusal s (length out)
+    → ClosedRead s out r after → Closed bytes out r after
+unfolding closedTo
+by-read bytes out s r after same e c =
+    let n : ℕ = sheetRefusal bytes (length out) in
+    record {
+      number = c .number ∙ sym e;
+      written =
+          c .written
+          ∙ ap (λ (k : ℕ). byNumber k (length (closingOf s)) 0) (sym e)
+          ∙ ap (λ (x : BidSheet). byNumber n (length (closingOf x)) 0) (sym same);
+      lent =
+          c .lent
+          ∙ ap (λ (k : ℕ). byNumber k (writtenTo out (closingOf s)) out) (sym e)
+          ∙ ap (λ (x : BidSheet). byNumber n (writtenTo out (closingOf x)) out) (sym same);
+    }
+
+module _ (m n : ℕ) (start bids out : List ℕ) where
+  abbrev sheet : BidSheet
+  sheet = record { items = m; bidders = n; start = start; bids = bids }
+
+  pub no-room : length out < closingLength m n → readRefusal sheet (length out) ≡ 3
+  unfolding readRefusal
+  no-room l = given 3 (ltb (length out) (closingLength m n)) _ (lt-ltb (length out) (closingLength m n) l)
+
+  -- with room, the sealed auction decides
+  pub by-sealed : badItems m ≡ false → badBidders n ≡ false → length start ≡ m → length bids ≡ n * m → closingLength m n ≤ length out
+      → readRefusal sheet (length out) ≡ sealedOf m n start bids .refusal
+  unfolding readRefusal
+  by-sealed gi gb ls ld l =
+      passed 3 (ltb (length out) (closingLength m n)) _ (le-ltb (length out) (closingLength m n) l) ∙ sym (by-amounts-alone m n start bids gi gb ls ld)
+
+  pub not-written : (r : Outcome) (why : ℕ) → 0 < why → readRefusal sheet (length out) ≡ why → r .refusal ≡ why → r .length ≡ 0 → ClosedRead sheet out r out
+  not-written r why l e f g =
+      let some-given : readRefusal sheet (length out) ≡ 0 → ⊥ = λ z. omega arith in
       record {
-        number = number ∙ e;
+        number = f ∙ sym e;
+        written = g ∙ sym (by-some (readRefusal sheet (length out)) some-given (length (closingOf sheet)) 0);
+        lent = sym (by-some (readRefusal sheet (length out)) some-given (writtenTo out (closingOf sheet)) out);
+      }
+
+  pub is-written : (c : Closing) (r : Outcome) (after : List ℕ) → readRefusal sheet (length out) ≡ 0 → c ≡ sealedOf m n start bids
+      → r .refusal ≡ 0 → r .length ≡ closingLength m n
+      → writes m n (length out) ≡ true → after ≡ afterClosing m n (c .raised) (c .lowered) (c .prices) (c .assignment) out
+      → ClosedRead sheet out r after
+  unfolding closingOf
+  is-written c r after e is f g t w =
+      let z : Closing = sealedOf m n start bids in
+      record {
+        number = f ∙ sym e;
         written =
-            written
-            ∙ ap (λ (k : ℕ). byNumber k (closingLength m n) 0) e
-            ∙ ap (λ (k : ℕ). byNumber (sheetRefusal bytes (length out)) k 0) (sym (closing-length m n (z .raised) (z .lowered) (z .prices) (z .assignment)))
-            ∙ ap (λ (x : BidSheet). byNumber (sheetRefusal bytes (length out)) (length (closingOf x)) 0) (sym same);
+            g
+            ∙ sym (closing-length m n (z .raised) (z .lowered) (z .prices) (z .assignment))
+            ∙ ap (λ (k : ℕ). byNumber k (length (closingOf sheet)) 0) (sym e);
         lent =
-            lent
-            ∙ ap (λ (k : ℕ). byNumber k (writtenTo out (closingSheet m n (c .raised) (c .lowered) (c .prices) (c .assignment))) out) e
-            ∙ ap (λ (x : Closing). byNumber (sheetRefusal bytes (length out)) (writtenTo out (closingSheet m n (x .raised) (x .lowered) (x .prices) (x .assignment))) out) is
-            ∙ ap (λ (x : BidSheet). byNumber (sheetRefusal bytes (length out)) (writtenTo out (closingOf x)) out) (sym same);
+            w
+            ∙ sym (changed m n (c .raised) (c .lowered) (c .prices) (c .assignment) out t)
+            ∙ ap (λ (x : Closing). writtenTo out (closingSheet m n (x .raised) (x .lowered) (x .prices) (x .assignment))) is
+            ∙ ap (λ (k : ℕ). byNumber k (writtenTo out (closingOf sheet)) out) (sym e);
       }

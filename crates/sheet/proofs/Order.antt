@@ -1,11 +1,10 @@
 -- The numbers in document 01's order for sheets: which is given, by what was read so far. Assumes nothing.
-use Prim.Native.Nat.{ℕ, _+_, _*_, _≤_, _<_}
+use Prim.Native.Nat.{ℕ, _+_, _*_}
 use mathlib.Core.Path.{_≡_, refl, ap, _∙_}
 use mathlib.Core.Bool.{Bool, true, false, _||_}
 use mathlib.Core.List.{List, [], _∷_}
 use mathlib.Core.Option.{Option, none, some, Option·getD}
 use lib.Dec.{ltb}
-use borrow.Author.Tests.{lt-ltb, le-ltb}
 use Rattle.rule.specs.Refusal.{on, first, badItems, badBidders, anyOver}
 use Rattle.rule.proofs.Refusal.{passed, given}
 use Rattle.lines.specs.Lines.{closingLength}
@@ -14,6 +13,7 @@ use Rattle.lines.specs.Reading.{lineAt}
 use Rattle.digits.proofs.Gives.{gives, stops}
 use Rattle.sheet.specs.BidSheet.{BidSheet, itemsIn, biddersIn, bidsAt, readSheet}
 use Rattle.sheet.specs.Close.{isNone, itemsOf, biddersOf, bidSheetOf, sheetRefusal}
+use Rattle.sheet.specs.Steps.{readRefusal}
 
 -- the numbers from the rest of the sheet on
 abbrev pub restRefusal : List ℕ → (m n room : ℕ) → ℕ
@@ -103,15 +103,9 @@ module _ (bytes : List ℕ) (room : ℕ) where
               unfolding bidSheetOf
               sheet-is = ap (λ (o : Option BidSheet). Option·getD o (record { items = 0; bidders = 0; start = []; bids = [] })) is-read
 
-              pub no-room : room < closingLength m n → sheetRefusal bytes room ≡ 3
-              no-room l =
+              pub to-read : sheetRefusal bytes room ≡ readRefusal (record { items = m; bidders = n; start = start; bids = bids }) room
+              unfolding readRefusal
+              to-read =
                   to-rest
                   ∙ passed 6 (isNone (readSheet bytes)) _ (ap isNone is-read)
-                  ∙ given 3 (ltb room (closingLength m n)) _ (lt-ltb room (closingLength m n) l)
-
-              pub by-amounts : closingLength m n ≤ room → sheetRefusal bytes room ≡ first (on 4 (anyOver start) ∷ on 5 (anyOver bids) ∷ [])
-              by-amounts l =
-                  to-rest
-                  ∙ passed 6 (isNone (readSheet bytes)) _ (ap isNone is-read)
-                  ∙ passed 3 (ltb room (closingLength m n)) _ (le-ltb room (closingLength m n) l)
-                  ∙ ap (λ (x : BidSheet). first (on 4 (anyOver (x .start)) ∷ on 5 (anyOver (x .bids)) ∷ [])) sheet-is
+                  ∙ ap (λ (x : BidSheet). first (on 3 (ltb room (closingLength m n)) ∷ on 4 (anyOver (x .start)) ∷ on 5 (anyOver (x .bids)) ∷ [])) sheet-is

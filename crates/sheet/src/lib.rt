@@ -7,11 +7,11 @@ ghost use Prim.Native.Nat.{_+_, _*_, _^_, _≤_, _<_};
 ghost use lib.ListN.{length, take};
 ghost use Rattle.digits.specs.Reading.{numberIn, asNumber};
 ghost use Rattle.lines.specs.Reading.{endsAt, lineAt};
-ghost use Rattle.lines.specs.Lines.{closingSheet, closingLength, writtenTo};
+ghost use Rattle.lines.specs.Lines.{writtenTo};
 ghost use Rattle.rule.specs.Refusal.{outside, badItems, badBidders};
 ghost use Rattle.sheet.specs.BidSheet.{itemsIn, biddersIn, bidsAt};
-ghost use Rattle.sheet.specs.Close.{sheetRefusal, byNumber, closedTo, refusalLine, answerOf};
-ghost use Rattle.sheet.specs.Steps.{readAs, Closed};
+ghost use Rattle.sheet.specs.Close.{sheetRefusal, closedTo, refusalLine, answerOf};
+ghost use Rattle.sheet.specs.Steps.{readAs, ClosedRead, Closed};
 
 // How a bid sheet came out: the number that turned it down, or 0, and how many bytes of closing sheet were written.
 struct Outcome {
@@ -114,7 +114,7 @@ fn refused(why: u8) -> Outcome
 
 // Whether a count is outside 1 to the most there may be.
 fn outside(count: u32, most: u32) -> bool
-    ensures { λ r. ⌜ (r ≡ outside most count) × (r ≡ false → count ≤ most) ⌝ }
+    ensures { λ r. ⌜ r ≡ outside most count ⌝ }
 {
     if count < 1 {
         return true;
@@ -122,26 +122,33 @@ fn outside(count: u32, most: u32) -> bool
     most < count
 }
 
-// Writes the close of the sealed auction, unless that was turned down.
-fn write(out: &mut [u8], items: u32, bidders: u32, c: auction::Closing) -> Outcome
-    requires { ⌜ (items ≤ 32) × (bidders ≤ 64) × (closingLength items bidders ≤ length (now out)) ⌝ }
-    ensures { λ r. ⌜ (r .refusal ≡ c .refusal) × (r .length ≡ byNumber (c .refusal) (closingLength items bidders) 0)
-        × (now (out .exit) ≡ byNumber (c .refusal)
-        (writtenTo (now (out .entry)) (closingSheet items bidders (c .raised) (c .lowered) (c .prices) (c .assignment)))
-        (now (out .entry))) ⌝ }
+// Closes a sheet that was read: where there is room for it, the closing sheet of the sealed auction is written, unless that was turned down.
+fn close_read(items: u32, bidders: u32, start: &[u16], bids: &[u16], out: &mut [u8]) -> Outcome
+    requires { ⌜ (badItems items ≡ false) × (badBidders bidders ≡ false) × (length (now start) ≡ items) × (length (now bids) ≡ bidders * items) ⌝ }
+    ensures { λ r. ⌜ ClosedRead (record { items = items; bidders = bidders; start = now (start .entry); bids = now (bids .entry) })
+        (now (out .entry)) r (now (out .exit)) ⌝ }
 {
+    let long = lines::closing_length(items, bidders);
+    if out.len() < long {
+        return refused(3);
+    }
+    let c = auction::sealed(items, bidders, start, bids);
     let why = c.refusal;
-    if why != 0 {
+    if 0 < why {
         return refused(why);
     }
-    let raised = c.raised;
-    let lowered = c.lowered;
-    let prices = c.prices;
-    let assignment = c.assignment;
-    lines::write_closing(out, items, bidders, raised, lowered, &prices, &assignment);
+    lines::write_closing(
+        out,
+        items,
+        bidders,
+        c.raised,
+        c.lowered,
+        &c.prices,
+        &c.assignment,
+    );
     Outcome {
-        refusal: 0,
-        length: lines::closing_length(items, bidders),
+        refusal: why,
+        length: long,
     }
 }
 
@@ -162,11 +169,7 @@ fn close_counted(bytes: &[u8], items: u32, bidders: u32, out: &mut [u8]) -> Outc
     if !bids_at(bytes, 5 + 4 * m, m, n, &mut bids) {
         return refused(6);
     }
-    if out.len() < lines::closing_length(items, bidders) {
-        return refused(3);
-    }
-    let c = auction::sealed(items, bidders, &start[..m], &bids[..size]);
-    write(out, items, bidders, c)
+    close_read(items, bidders, &start[..m], &bids[..size], out)
 }
 
 fn close(bytes: &[u8], out: &mut [u8]) -> Outcome

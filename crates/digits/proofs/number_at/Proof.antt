@@ -31,7 +31,7 @@ returns-2 c =
     sym
     (ap asNumber
     (few-digits (a .s .now) (a .at) (a .digits) (l .inv .3)
-    ∙ number-stops (a .s .now) (a .at) (a .digits) (l .k) (c .before .before .loop-test .taken) (no-digit (a .s .now) (a .at + l .k) (c .before .digit-at .result) (c .before .digit-at .ensures) (c .if2 .taken))))
+    ∙ number-stops (a .s .now) (a .at) (a .digits) (l .k) (c .before .before .loop-test .taken) (no-digit (a .s .now) (a .at + l .k) (c .before .digit-at .result) (c .before .digit-at .ensures) (omega arith))))
 
 -- before the last of eight digits the number is below 16 ^ 7
 below : (c : tie.Else2 Inv-loop μ-loop) → c .before .before .before .loop .x < 268435456

@@ -1,7 +1,6 @@
 -- `sheet::bids_at` meets its contract: the bids of the lines read stand ahead of the lines left to read. Assumes nothing.
 use Prim.Native.Nat.{ℕ, _+_, _*_, _-_, _≤_}
 use mathlib.Core.Path.{_≡_, sym, ap, _∙_}
-use mathlib.Core.Bool.{Bool, true, false}
 use mathlib.Core.List.{List, []}
 use mathlib.Core.Option.{none, some}
 use native.Mathlib.Omega.{arith}
@@ -10,11 +9,10 @@ use lib.Dec.{eqb}
 use lib.ListN.{length, take}
 use borrow.Rule.Slice.PartMut.{same-len-mid}
 use borrow.Author.Needs.{needs}
-use borrow.Author.Tests.{not-true, not-false}
 use Rattle.lines.specs.Reading.{lineAt}
 use Rattle.sheet.specs.BidSheet.{bidsAt}
 use Rattle.sheet.specs.Steps.{readAs}
-use Rattle.sheet.proofs.Ahead.{ahead, ahead-none}
+use Rattle.sheet.proofs.Ahead.{said-no, said-yes, ahead, ahead-none}
 use Rattle.sheet.proofs.Rows.{few, row-inside, part-length, part-back, line-inside, bids-stop, bids-step, bids-done}
 use Rattle.sheet.proofs.bids_at.Statement.{statement}
 use Rattle.sheet.proofs.bids_at.Tie as tie
@@ -88,8 +86,8 @@ returns : tie.Need-returns Inv-loop μ-loop
 returns c =
     let l = c .before .before .before .before .before .before .loop in
     let a = c .before .before .before .before .before .before .before .before .before .args in
-    let no : c .before .before .before .line-at .result ≡ false = not-true _ (c .if1 .taken) in
-    let e : lineAt (a .items) 4 (a .s .now) (l .here) ≡ none = said (c .before) ∙ ap (λ (t : Bool). readAs t (c .before .before .before .line-at .last .1 .1 .0)) no in
+    let e : lineAt (a .items) 4 (a .s .now) (l .here) ≡ none =
+    said-no (lineAt (a .items) 4 (a .s .now) (l .here)) (c .before .before .before .line-at .result) (c .before .before .before .line-at .last .1 .1 .0) (said (c .before)) (c .if1 .taken) in
     l .inv .0
     ∙ ap (ahead (take (l .b * a .items) (l .into))) (bids-stop (a .s .now) (a .items) (a .bidders - l .b) (l .here) (omega arith) e)
 
@@ -116,8 +114,8 @@ loop-again c =
     let xs : List ℕ = call .last .1 .1 .0 in
     let fits = inside (c .before .before .before .before .before) in
     let long : length xs ≡ a .items = call .kept .1 .1 .0 ∙ part-length (l .into) (l .b) (a .items) fits in
-    let yes-line : call .result ≡ true = not-false _ (c .if1 .left) in
-    let e : lineAt (a .items) 4 (a .s .now) (l .here) ≡ some xs = said (c .before) ∙ ap (λ (t : Bool). readAs t xs) yes-line in (
+    let e : lineAt (a .items) 4 (a .s .now) (l .here) ≡ some xs =
+    said-yes (lineAt (a .items) 4 (a .s .now) (l .here)) (call .result) xs (said (c .before)) (c .if1 .left) in (
       bids-step (a .s .now) (a .items) (bidsAt (a .bidders) (a .items) (a .s .now) (a .at)) (take (l .b * a .items) (l .into)) (a .bidders) (l .b) (l .here) xs
           (omega arith) e (l .inv .0)
           ∙ ap (λ (ys : List ℕ). ahead ys (bidsAt (a .bidders - (l .b + 1)) (a .items) (a .s .now) (l .here + (4 * a .items + 1))))

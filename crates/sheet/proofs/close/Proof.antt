@@ -1,4 +1,5 @@
 -- `sheet::close` meets its contract. Assumes nothing.
+use Prim.Native.Nat.{ℕ}
 use mathlib.Core.Path.{_≡_, sym, _∙_}
 use mathlib.Core.Bool.{false}
 use mathlib.Core.Option.{none, some}
@@ -10,6 +11,7 @@ use Rattle.sheet.specs.BidSheet.{itemsIn, biddersIn}
 use Rattle.digits.proofs.Walking.{was-number, was-nothing}
 use Rattle.sheet.proofs.Order.{no-items, no-bidders, bad-items, bad-bidders}
 use Rattle.sheet.proofs.Ends.{turned-down}
+use Rattle.sheet.proofs.Longer.{most-items, most-bidders}
 use Rattle.sheet.proofs.close.Statement.{statement}
 use Rattle.sheet.proofs.close.Tie as tie
 
@@ -77,13 +79,13 @@ returns-3 c =
     let a = at .before .before .before .before .before .before .before .before .before .before .args in
     turned-down (a .bytes .now) (a .out .now) (c .refused3 .result) 0
     (bad-items (a .bytes .now) (length (a .out .now)) (at .before .before .before .before .before .items .given .0 .0) (items-read (at .before .before .before .before)) (at .before .bidders .given .0 .0) (bidders-read at)
-    (sym (c .before .before .outside .ensures .0) ∙ c .before .if1 .taken))
+    (sym (c .before .before .outside .ensures) ∙ c .before .if1 .taken))
     (c .refused3 .ensures .0) (c .refused3 .ensures .1)
 
 -- the items are in order
 items-fit : (c : tie.Else1) → badItems (c .before .before .before .before .before .before .before .items .given .0 .0) ≡ false
 unfolding badItems
-items-fit c = sym (c .before .outside .ensures .0) ∙ c .if1 .left
+items-fit c = sym (c .before .outside .ensures) ∙ c .if1 .left
 
 outside-requires-2 : tie.Need-outside-requires-2
 outside-requires-2 c κs = search needs
@@ -99,20 +101,18 @@ returns-4 c =
     turned-down (a .bytes .now) (a .out .now) (c .refused4 .result) 1
     (bad-bidders (a .bytes .now) (length (a .out .now)) (at .before .before .before .before .before .items .given .0 .0) (items-read (at .before .before .before .before)) (at .before .bidders .given .0 .0) (bidders-read at)
     (items-fit (c .before .before .before))
-    (sym (c .before .before .outside2 .ensures .0) ∙ c .before .if2 .taken))
+    (sym (c .before .before .outside2 .ensures) ∙ c .before .if2 .taken))
     (c .refused4 .ensures .0) (c .refused4 .ensures .1)
 
 close-counted-requires : tie.Need-close-counted-requires
 unfolding badBidders
 close-counted-requires c κs =
-    let at = c .before .before .before .before .before in (
-      items-read (at .before .before .before .before),
-      bidders-read at,
-      items-fit (c .before .before .before),
-      sym (c .before .before .outside2 .ensures .0) ∙ c .before .if2 .left,
-      c .before .before .before .before .outside .ensures .1 (c .before .before .before .if1 .left),
-      c .before .before .outside2 .ensures .1 (c .before .if2 .left),
-    )
+    let at = c .before .before .before .before .before in
+    let m : ℕ = at .before .before .before .before .before .items .given .0 .0 in
+    let n : ℕ = at .before .bidders .given .0 .0 in
+    let e : badItems m ≡ false = items-fit (c .before .before .before) in
+    let f : badBidders n ≡ false = sym (c .before .before .outside2 .ensures) ∙ c .before .if2 .left in
+    (items-read (at .before .before .before .before), bidders-read at, e, f, most-items m e, most-bidders n f)
 
 same-length : tie.Need-same-length
 same-length c = search needs

@@ -1,22 +1,20 @@
 -- `sheet::close_counted` meets its contract. Assumes nothing.
-use Prim.Native.Nat.{ℕ, _+_, _*_, _≤_, _<_}
+use Prim.Native.Nat.{ℕ, _+_, _*_, _≤_}
 use mathlib.Core.Path.{_≡_, sym, ap, _∙_, subst}
-use mathlib.Core.Bool.{Bool}
 use mathlib.Core.List.{List, _++_}
 use mathlib.Core.Option.{none, some}
 use native.Mathlib.Omega.{arith}
 use lib.ListN.{length, take, drop, replicate, length-append}
 use lib.Seq.{length-take-le, take-at}
 use borrow.Author.Needs.{needs}
-use borrow.Author.Tests.{not-true, not-false}
 use Rattle.lines.specs.Reading.{lineAt}
-use Rattle.auction.specs.Sealed.{sealedOf}
 use Rattle.sheet.specs.BidSheet.{bidsAt}
-use Rattle.sheet.specs.Steps.{readAs}
+use Rattle.sheet.specs.Steps.{readAs, ClosedRead}
 use Rattle.sheet.proofs.Walking.{four-bytes}
+use Rattle.sheet.proofs.Ahead.{said-no, said-yes}
 use Rattle.sheet.proofs.Rows.{few, line-inside}
-use Rattle.sheet.proofs.Order.{no-start, no-bids, no-room}
-use Rattle.sheet.proofs.Ends.{turned-down, by-auction}
+use Rattle.sheet.proofs.Order.{no-start, no-bids, sheet-is, to-read}
+use Rattle.sheet.proofs.Ends.{turned-down, by-read}
 use Rattle.sheet.proofs.close_counted.Statement.{statement}
 use Rattle.sheet.proofs.close_counted.Tie as tie
 
@@ -60,8 +58,9 @@ returns c =
     let at = c .before .before .before .before in
     let a = at .before .before .before .args in
     let p = at .before .before .before .pre in
+    let said = c .before .before .before .line-at in
     let e : lineAt (a .items) 4 (a .bytes .now) 4 ≡ none =
-    start-said (c .before .before) ∙ ap (λ (t : Bool). readAs t (c .before .before .before .line-at .last .1 .1 .0)) (not-true (c .before .before .before .line-at .result) (c .before .if1 .taken)) in
+    said-no (lineAt (a .items) 4 (a .bytes .now) 4) (said .result) (said .last .1 .1 .0) (start-said (c .before .before)) (c .before .if1 .taken) in
     turned-down (a .bytes .now) (a .out .now) (c .refused .result) 5
     (no-start (a .bytes .now) (length (a .out .now)) (a .items) (p .0) (a .bidders) (p .1) (p .2) (p .3) e)
     (c .refused .ensures .0) (c .refused .ensures .1)
@@ -77,7 +76,9 @@ slice-aggregate-bids-at c = search needs
 
 -- the starting prices were read
 start-read : (c : tie.Else1) → lineAt (c .before .before .before .before .before .before .args .items) 4 (c .before .before .before .before .before .before .args .bytes .now) 4 ≡ some (c .before .before .line-at .last .1 .1 .0)
-start-read c = start-said (c .before) ∙ ap (λ (t : Bool). readAs t (c .before .before .line-at .last .1 .1 .0)) (not-false (c .before .before .line-at .result) (c .if1 .left))
+start-read c =
+    let a = c .before .before .before .before .before .before .args in
+    said-yes (lineAt (a .items) 4 (a .bytes .now) 4) (c .before .before .line-at .result) (c .before .before .line-at .last .1 .1 .0) (start-said (c .before)) (c .if1 .left)
 
 start-long : (c : tie.Else1) → length (c .before .before .line-at .last .1 .1 .0) ≡ c .before .before .before .before .before .before .args .items
 start-long c = c .before .before .line-at .kept .1 .1 .0 ∙ part (c .before .before .before .before .before .before .args .items) (omega arith)
@@ -103,16 +104,10 @@ returns-2 c =
     let p = at .before .before .before .before .before .before .pre in
     let bids : List ℕ = take (a .bidders * a .items) (c .before .before .before .bids-at .last .1 .1 .1 .1 .0) in
     let e : bidsAt (a .bidders) (a .items) (a .bytes .now) (5 + 4 * a .items) ≡ none =
-    c .before .before .before .bids-at .ensures ∙ ap (λ (t : Bool). readAs t bids) (not-true (c .before .before .before .bids-at .result) (c .before .if2 .taken)) in
+    said-no (bidsAt (a .bidders) (a .items) (a .bytes .now) (5 + 4 * a .items)) (c .before .before .before .bids-at .result) bids (c .before .before .before .bids-at .ensures) (c .before .if2 .taken) in
     turned-down (a .bytes .now) (a .out .now) (c .refused2 .result) 5
     (no-bids (a .bytes .now) (length (a .out .now)) (a .items) (p .0) (a .bidders) (p .1) (p .2) (p .3) (at .before .before .line-at .last .1 .1 .0) (start-read at) e)
     (c .refused2 .ensures .0) (c .refused2 .ensures .1)
-
-closing-length-requires : tie.Need-closing-length-requires
-closing-length-requires c κs = search needs
-
-refused-requires-3 : tie.Need-refused-requires-3
-refused-requires-3 c κs = search needs
 
 inside : (c : tie.Else2) → c .before .before .before .before .before .before .before .before .before .before .args .bidders * c .before .before .before .before .before .before .before .before .before .before .args .items ≤ length (c .before .before .bids-at .last .1 .1 .1 .1 .0)
 inside c =
@@ -125,8 +120,8 @@ bids-read : (c : tie.Else2) → bidsAt (c .before .before .before .before .befor
     ≡ some (take (c .before .before .before .before .before .before .before .before .before .before .args .bidders * c .before .before .before .before .before .before .before .before .before .before .args .items) (c .before .before .bids-at .last .1 .1 .1 .1 .0))
 bids-read c =
     let a = c .before .before .before .before .before .before .before .before .before .before .args in
-    c .before .before .bids-at .ensures
-    ∙ ap (λ (t : Bool). readAs t (take (a .bidders * a .items) (c .before .before .bids-at .last .1 .1 .1 .1 .0))) (not-false (c .before .before .bids-at .result) (c .if2 .left))
+    said-yes (bidsAt (a .bidders) (a .items) (a .bytes .now) (5 + 4 * a .items)) (c .before .before .bids-at .result)
+    (take (a .bidders * a .items) (c .before .before .bids-at .last .1 .1 .1 .1 .0)) (c .before .before .bids-at .ensures) (c .if2 .left)
 
 bids-long : (c : tie.Else2) → length (take (c .before .before .before .before .before .before .before .before .before .before .args .bidders * c .before .before .before .before .before .before .before .before .before .before .args .items) (c .before .before .bids-at .last .1 .1 .1 .1 .0))
     ≡ c .before .before .before .before .before .before .before .before .before .before .args .bidders * c .before .before .before .before .before .before .before .before .before .before .args .items
@@ -134,62 +129,45 @@ bids-long c =
     let a = c .before .before .before .before .before .before .before .before .before .before .args in
     length-take-le (a .bidders * a .items) (c .before .before .bids-at .last .1 .1 .1 .1 .0) (inside c)
 
-returns-3 : tie.Need-returns-3
-returns-3 c =
-    let read = c .before .before .before in
-    let at = read .before .before .before .before in
-    let a = at .before .before .before .before .before .before .args in
-    let p = at .before .before .before .before .before .before .pre in
-    turned-down (a .bytes .now) (a .out .now) (c .refused3 .result) 2
-    (no-room (a .bytes .now) (length (a .out .now)) (a .items) (p .0) (a .bidders) (p .1) (p .2) (p .3)
-    (at .before .before .line-at .last .1 .1 .0) (start-read at)
-    (take (a .bidders * a .items) (read .before .before .bids-at .last .1 .1 .1 .1 .0)) (bids-read read)
-    (subst (λ (k : ℕ). length (a .out .now) < k) (c .before .before .closing-length .ensures) (c .before .if3 .taken)))
-    (c .refused3 .ensures .0) (c .refused3 .ensures .1)
-
 array-share-prefix-start : tie.Need-array-share-prefix-start
 array-share-prefix-start c =
-    let at = c .before .before .before .before .before .before in
+    let at = c .before .before .before .before in
     omega (arith, length-append (at .before .before .line-at .last .1 .1 .0) (drop (at .before .before .before .before .before .before .args .items) zeros), start-long at)
 
-slice-aggregate-sealed : tie.Need-slice-aggregate-sealed
-slice-aggregate-sealed c =
-    let at = c .before .before .before .before .before .before .before in
+slice-aggregate-close-read : tie.Need-slice-aggregate-close-read
+slice-aggregate-close-read c =
+    let at = c .before .before .before .before .before in
     sym (ap length (start-front at) ∙ start-long at)
 
 array-share-prefix-bids : tie.Need-array-share-prefix-bids
-array-share-prefix-bids c = inside (c .before .before .before)
+array-share-prefix-bids c = inside (c .before)
 
-slice-aggregate-sealed-2 : tie.Need-slice-aggregate-sealed-2
-slice-aggregate-sealed-2 c = sym (bids-long (c .before .before .before .before))
+slice-aggregate-close-read-2 : tie.Need-slice-aggregate-close-read-2
+slice-aggregate-close-read-2 c = sym (bids-long (c .before .before))
 
-sealed-requires : tie.Need-sealed-requires
-sealed-requires c κs = search needs
-
-write-requires : tie.Need-write-requires
-write-requires c κs =
-    let a = c .before .before .before .before .before .before .before .before .before .before .before .before .before .before .before .before .args in
-    (omega arith, omega arith, subst (λ (k : ℕ). k ≤ length (a .out .now)) (c .before .before .before .before .before .closing-length .ensures) (c .before .before .before .before .if3 .left))
+close-read-requires : tie.Need-close-read-requires
+close-read-requires c κs =
+    let read = c .before .before .before in
+    let at = read .before .before .before .before in
+    let p = at .before .before .before .before .before .before .pre in
+    (p .2, p .3, ap length (start-front at) ∙ start-long at, bids-long read)
 
 same-length : tie.Need-same-length
 same-length c = search needs
 
-returns-4 : tie.Need-returns-4
-returns-4 c =
-    let read = c .before .before .before .before .before .before .before .before .before in
+returns-3 : tie.Need-returns-3
+returns-3 c =
+    let read = c .before .before .before .before .before .before in
     let at = read .before .before .before .before in
     let a = at .before .before .before .before .before .before .args in
     let p = at .before .before .before .before .before .before .pre in
-    let m : ℕ = a .items in
-    let n : ℕ = a .bidders in
     let start : List ℕ = at .before .before .line-at .last .1 .1 .0 in
-    let bids : List ℕ = take (n * m) (read .before .before .bids-at .last .1 .1 .1 .1 .0) in
-    let w = c .before .before .write in
-    by-auction (a .bytes .now) (a .out .now) m n start bids (c .before .before .before .before .sealed .result) (w .result) (w .last .0)
-    (p .0) (p .1) (p .2) (p .3) (start-read at) (bids-read read) (start-long at) (bids-long read)
-    (subst (λ (k : ℕ). k ≤ length (a .out .now)) (c .before .before .before .before .before .before .before .before .closing-length .ensures) (c .before .before .before .before .before .before .before .if3 .left))
-    (c .before .before .before .before .sealed .ensures .0 ∙ ap (λ (xs : List ℕ). sealedOf m n xs bids) (start-front at))
-    (w .ensures .0) (w .ensures .1) (w .ensures .2)
+    let bids : List ℕ = take (a .bidders * a .items) (read .before .before .bids-at .last .1 .1 .1 .1 .0) in
+    let end = c .before .before .close-read in
+    by-read (a .bytes .now) (a .out .now) (record { items = a .items; bidders = a .bidders; start = start; bids = bids }) (end .result) (end .last .1 .1 .1 .1 .0)
+    (sheet-is (a .bytes .now) (length (a .out .now)) (a .items) (p .0) (a .bidders) (p .1) (p .2) (p .3) start (start-read at) bids (bids-read read))
+    (to-read (a .bytes .now) (length (a .out .now)) (a .items) (p .0) (a .bidders) (p .1) (p .2) (p .3) start (start-read at) bids (bids-read read))
+    (subst (λ (xs : List ℕ). ClosedRead (record { items = a .items; bidders = a .bidders; start = xs; bids = bids }) (a .out .now) (end .result) (end .last .1 .1 .1 .1 .0)) (start-front at) (end .ensures))
 
 pub close-counted-spec : {M : Type 1} → statement M
 close-counted-spec =
@@ -207,14 +185,10 @@ close-counted-spec =
     bids-at-requires
     refused-requires-2
     returns-2
-    closing-length-requires
-    refused-requires-3
-    returns-3
     array-share-prefix-start
-    slice-aggregate-sealed
+    slice-aggregate-close-read
     array-share-prefix-bids
-    slice-aggregate-sealed-2
-    sealed-requires
-    write-requires
+    slice-aggregate-close-read-2
+    close-read-requires
     same-length
-    returns-4)
+    returns-3)

@@ -1,0 +1,87 @@
+-- `sheet::close_read` meets its contract. Assumes nothing.
+use Prim.Native.Nat.{ℕ, _≤_, _<_}
+use mathlib.Core.Path.{_≡_, sym, ap, _∙_, subst}
+use native.Mathlib.Omega.{arith}
+use lib.ListN.{length}
+use borrow.Author.Needs.{needs}
+use Rattle.lines.specs.Lines.{closingLength}
+use Rattle.lines.proofs.Written.{enough}
+use Rattle.auction.specs.declared.Closing.{Closing}
+use Rattle.sheet.specs.Steps.{readRefusal}
+use Rattle.sheet.proofs.Ends.{no-room, by-sealed, not-written, is-written}
+use Rattle.sheet.proofs.Longer.{most-items, most-bidders}
+use Rattle.sheet.proofs.close_read.Statement.{statement}
+use Rattle.sheet.proofs.close_read.Tie as tie
+
+closing-length-requires : tie.Need-closing-length-requires
+closing-length-requires c κs = search needs
+
+refused-requires : tie.Need-refused-requires
+refused-requires c κs = search needs
+
+returns : tie.Need-returns
+returns c =
+    let a = c .before .before .before .before .before .before .args in
+    let less : length (a .out .now) < closingLength (a .items) (a .bidders) =
+    subst (λ (k : ℕ). length (a .out .now) < k) (c .before .before .closing-length .ensures) (c .before .if1 .taken) in
+    not-written (a .items) (a .bidders) (a .start .now) (a .bids .now) (a .out .now) (c .refused .result) 3 (omega arith)
+    (no-room (a .items) (a .bidders) (a .start .now) (a .bids .now) (a .out .now) less)
+    (c .refused .ensures .0) (c .refused .ensures .1)
+
+sealed-requires : tie.Need-sealed-requires
+sealed-requires c κs = search needs
+
+refused-requires-2 : tie.Need-refused-requires-2
+refused-requires-2 c κs = search needs
+
+-- there is room
+room : (c : tie.Else1) → closingLength (c .before .before .before .before .before .args .items) (c .before .before .before .before .before .args .bidders) ≤ length (c .before .before .before .before .before .args .out .now)
+room c = subst (λ (k : ℕ). k ≤ length (c .before .before .before .before .before .args .out .now)) (c .before .closing-length .ensures) (c .if1 .left)
+
+-- the number is the sealed auction's
+number : (c : tie.After-sealed)
+    → readRefusal (record { items = c .before .before .before .before .before .before .args .items; bidders = c .before .before .before .before .before .before .args .bidders; start = c .before .before .before .before .before .before .args .start .now; bids = c .before .before .before .before .before .before .args .bids .now })
+    (length (c .before .before .before .before .before .before .args .out .now)) ≡ c .sealed .result .refusal
+number c =
+    let a = c .before .before .before .before .before .before .args in
+    let p = c .before .before .before .before .before .before .pre in
+    by-sealed (a .items) (a .bidders) (a .start .now) (a .bids .now) (a .out .now) (p .0) (p .1) (p .2) (p .3) (room (c .before))
+    ∙ sym (ap (λ (x : Closing). x .refusal) (c .sealed .ensures .0))
+
+returns-2 : tie.Need-returns-2
+returns-2 c =
+    let a = c .before .before .before .before .before .before .before .before .args in
+    not-written (a .items) (a .bidders) (a .start .now) (a .bids .now) (a .out .now) (c .refused2 .result) (c .before .before .sealed .result .refusal) (omega arith)
+    (number (c .before .before)) (c .refused2 .ensures .0) (c .refused2 .ensures .1)
+
+write-closing-requires : tie.Need-write-closing-requires
+write-closing-requires c κs = search needs
+
+same-length : tie.Need-same-length
+same-length c = search needs
+
+returns-3 : tie.Need-returns-3
+returns-3 c =
+    let here = c .before .before .before .before .before .before .before .before in
+    let a = here .before .before .before .before .before .before .args in
+    let p = here .before .before .before .before .before .before .pre in
+    let q = here .sealed .result in
+    let none-given : q .refusal ≡ 0 = omega arith in
+    is-written (a .items) (a .bidders) (a .start .now) (a .bids .now) (a .out .now) q _ _ (number here ∙ none-given) (here .sealed .ensures .0)
+    none-given (here .before .before .closing-length .ensures)
+    (enough (a .items) (a .bidders) (length (a .out .now)) (most-items (a .items) (p .0)) (most-bidders (a .bidders) (p .1)) (room (here .before)))
+    (c .before .before .write-closing .ensures .1)
+
+pub close-read-spec : {M : Type 1} → statement M
+close-read-spec =
+    tie.close
+    (tie.spec
+    closing-length-requires
+    refused-requires
+    returns
+    sealed-requires
+    refused-requires-2
+    returns-2
+    write-closing-requires
+    same-length
+    returns-3)
