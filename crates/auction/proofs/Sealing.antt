@@ -77,7 +77,7 @@ made u k p names = record { refusal = 0; raised = u; lowered = k; prices = p; as
 module _ (s : Sheet) (g : Ready s) where
   pub close-long : length (close s .prices) ≡ s .items
   unfolding close
-  close-long = path-long s (g .long) 8190
+  close-long = path-long s (g .long) _
 
   -- the names at the closing prices
   module _ (n : ℕ) (p sets : List ℕ) (nulls above : ℕ) (ep : p ≡ places 32 (close s .prices)) (ea : above ≡ positive (s .items) p)

@@ -1,4 +1,5 @@
--- What the proofs of the functions cite, and `Theorems`, what the floors above do.
+-- A case that tells a wrong definition, then what the proofs of the functions cite, and `Theorems`, what the floors above do.
+pub mod Applied
 pub mod Holdings
 pub mod Crowds
 pub mod Steps

@@ -1,4 +1,5 @@
--- The argument of docs/THEORY.md, in its order.
+-- Cases that tell a wrong definition, then the argument of docs/THEORY.md in its order.
+pub mod Applied
 pub mod Limits
 pub mod Union
 pub mod Tests

@@ -69,6 +69,10 @@ opening start = record { phase = rising; prices = start; ups = 0; downs = 0 }
 unfoldable pub path : Sheet → ℕ → State
 path s k = after (s .items) (s .bids) (opening (s .start)) k
 
--- a sheet's close: no path takes more than 8,190 rounds (`Closing.ups-max`, `Closing.downs-max`)
+-- the most rounds that a path takes: 4,095 raised and 4,095 lowered (`Closing.ups-max`, `Closing.downs-max`)
+unfoldable pub mostRounds : ℕ
+mostRounds = 8190
+
+-- a sheet's close
 unfoldable pub close : Sheet → State
-close s = path s 8190
+close s = path s mostRounds

@@ -1,4 +1,5 @@
--- The laws that several proofs cite.
+-- Cases that tell a wrong definition, then the laws that several proofs cite.
+pub mod Applied
 pub mod Tests
 pub mod Counting
 pub mod Sums

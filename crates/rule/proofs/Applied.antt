@@ -1,0 +1,107 @@
+-- The definitions applied to the smallest cases that tell a wrong one from them, by computation; the whole of document 01's table is in `cases`. The checker takes
+-- modules by name, and this one comes first: the first error that a wrong definition meets stands here. Assumes nothing.
+use Prim.Native.Nat.{ℕ, zero, suc, _+_}
+use mathlib.Core.Path.{_≡_, refl}
+use mathlib.Core.Bool.{true, false}
+use mathlib.Core.List.{List, [], _∷_}
+use native.Mathlib.Omega.{arith}
+use Rattle.sets.specs.Count.{allBelow, anyBelow, count}
+use Rattle.sets.specs.Bit.{bit, isSet, has, setOf, each, any, size}
+use Rattle.sets.specs.Largest.{largestBelow, largest}
+use Rattle.sets.specs.Lists.{tabulate}
+use Rattle.rule.specs.Sheet.{amount, Sheet}
+use Rattle.rule.specs.Demand.{surplusAtLeast, best, Demand, demand, demands, wants, nth}
+use Rattle.rule.specs.Excess.{bidders, crowded, inExcess, inPositiveExcess, excessDemand, positiveExcessDemand, excessSupply, positive}
+use Rattle.rule.specs.Round.{raise, lower, closed, roundFalling, round, move, roundAt, after, opening, path, mostRounds}
+use Rattle.rule.specs.Assignment.{option, holders, isAssignment, fits, Ahead, over-null}
+use Rattle.rule.specs.Equilibrium.{Below, greatest}
+use Rattle.rule.specs.Closing.{roundOf, largestRise}
+
+-- the definitions that the cases compute with
+computing : Unit {0}
+unfolding allBelow anyBelow count bit isSet has setOf each any size largestBelow largest tabulate amount surplusAtLeast best demand demands wants nth bidders crowded inExcess inPositiveExcess excessDemand positiveExcessDemand excessSupply positive raise lower roundFalling round move roundAt after opening path mostRounds option holders isAssignment fits greatest
+computing = tt
+
+-- a demand of these items alone, and one of null beside them
+abbrev pub only : ℕ → Demand
+only s = record { null = false; items = s }
+
+abbrev pub orNull : ℕ → Demand
+orNull s = record { null = true; items = s }
+
+-- ---- the sets
+
+-- an item of price 0 is not above 0: no falling set has it
+pub not-above : positive 1 (0 ∷ []) ≡ 0
+unfolding computing
+not-above = refl
+
+-- K4 at (3, 3): two bidders, who demand both of two items, are no more than the items, and both fall
+pub both-fall : excessSupply 2 3 (only 3 ∷ only 3 ∷ []) ≡ 3
+unfolding computing
+both-fall = refl
+
+-- K6 at its close: two bidders who demand the one item, and null as well, do not make it rise
+pub null-outside : excessDemand 1 (orNull 1 ∷ orNull 1 ∷ []) ≡ 0
+unfolding computing
+null-outside = refl
+
+-- K3: two bidders demand items 1 and 2 and one demands item 1, and both rise, though neither would alone
+pub both-rise : excessDemand 2 (only 3 ∷ only 3 ∷ only 1 ∷ []) ≡ 3
+unfolding computing
+both-rise = refl
+
+-- ---- rounds
+
+-- a raise is by 1
+pub one-up : raise 1 (0 ∷ []) 1 ≡ 1 ∷ []
+unfolding computing
+one-up = refl
+
+-- K9's first round raises item 1 and leaves item 2, which is in the falling set
+pub one-set : path (record { items = 2; start = 5 ∷ 5 ∷ []; bids = (9 ∷ 2 ∷ []) ∷ (9 ∷ 2 ∷ []) ∷ (9 ∷ 2 ∷ []) ∷ [] }) 1 .prices ≡ 6 ∷ 5 ∷ []
+unfolding computing
+one-set = refl
+
+-- K5: both sets are empty, and it closes
+pub closes-at-once : roundOf (record { items = 1; start = 0 ∷ []; bids = (0 ∷ []) ∷ [] }) 0 ≡ closed
+unfolding computing
+closes-at-once = refl
+
+-- 4,095 raised and 4,095 lowered: from (0, 4,095), with two bidders who bid (4,095, 0), a path takes them all
+pub most : mostRounds ≡ 4095 + 4095
+unfolding computing
+most = refl
+
+-- ---- names
+
+-- no item goes to two
+pub one-each : isAssignment 1 2 (1 ∷ 1 ∷ []) ≡ false
+unfolding computing
+one-each = refl
+
+-- an item of price above 0 is let, though its one bidder likes null as well
+pub must-be-let : fits 1 1 (orNull 1 ∷ []) (0 ∷ []) ≡ false
+unfolding computing
+must-be-let = refl
+
+-- null ranks behind an item
+pub null-last : Ahead 1 0
+null-last = over-null
+
+-- ---- prices
+
+-- nowhere above
+pub below : Below (0 ∷ []) (1 ∷ [])
+unfolding Below amount
+below zero = omega arith
+below (suc zero) = omega arith
+below (suc (suc k)) = omega arith
+
+-- one item at 1, two bidders who bid 2: its one round raised is the rise from 1 to 2
+abbrev pub two : Sheet
+two = record { items = 1; start = 1 ∷ []; bids = (2 ∷ []) ∷ (2 ∷ []) ∷ [] }
+
+pub rise : path two 1 .ups ≡ largestRise two (path two 1 .prices)
+unfolding computing
+rise = refl
