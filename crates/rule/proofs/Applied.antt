@@ -68,7 +68,7 @@ pub closes-at-once : roundOf (record { items = 1; start = 0 ∷ []; bids = (0 �
 unfolding computing
 closes-at-once = refl
 
--- 4,095 raised and 4,095 lowered: from (0, 4,095), with two bidders who bid (4,095, 0), a path takes them all
+-- 4,095 raised and 4,095 lowered: from (0, 4,095), with two bidders who bid (4,095, 0), a path takes them all (the tests play it)
 pub most : mostRounds ≡ 4095 + 4095
 unfolding computing
 most = refl
