@@ -85,14 +85,14 @@ open-kept o out after a ne p =
       put = p .put ∙ ap (sets out 0) e;
     }
 
-pub open-put : (o : Reply) (out mid after : List ℕ) → o .number ≡ 0 → o .next .items ≤ 32 → mid ≡ sets out 0 (numberText 0) → after ≡ sets mid 2 (pricesText (o .next))
-    → Puts (opens o) out after (record { length = 3 + 4 * o .next .items; next = o .next })
-open-put o out mid after z l e f =
+pub open-put : (o : Reply) (out mid after : List ℕ) (a : Answered) → o .number ≡ 0 → o .next .items ≤ 32 → mid ≡ sets out 0 (numberText 0)
+    → a ≡ record { length = 3 + 4 * o .next .items; next = o .next } → after ≡ sets mid 2 (pricesText (o .next)) → Puts (opens o) out after a
+open-put o out mid after a z l e q f =
     let long : length (opens o .bytes) ≡ 3 + 4 * o .next .items =
     ap length (opens-as o z) ∙ length-append (numberText 0) (pricesText (o .next)) ∙ (let p = prices-long (o .next) in omega (arith, text-long 0, p)) in
     record {
-      next = sym (opens-next o);
-      counted = sym long;
+      next = ap (λ (b : Answered). b .next) q ∙ sym (opens-next o);
+      counted = ap (λ (b : Answered). b .length) q ∙ sym long;
       small = omega (arith, long, l);
       put =
           f ∙ ap (λ (x : List ℕ). sets x 2 (pricesText (o .next))) e ∙ sets-then out 0 2 (numberText 0) (pricesText (o .next)) (omega (arith, text-long 0))
@@ -128,14 +128,14 @@ front-long : (kind set : ℕ) → length (numberText 0 ++ (hex 2 kind ++ hex 8 s
 front-long kind set =
     length-append (numberText 0) (hex 2 kind ++ hex 8 set) ∙ (let l = length-append (hex 2 kind) (hex 8 set) in omega (arith, text-long 0, l, hex-length 2 kind, hex-length 8 set))
 
-pub move-put : (kind set : ℕ) (next : Auction) (out mid after : List ℕ) → next .items ≤ 32 → mid ≡ sets out 0 (numberText 0 ++ (hex 2 kind ++ hex 8 set))
-    → after ≡ sets mid 12 (pricesText next) → Puts (movedBytes kind set next) out after (record { length = 13 + 4 * next .items; next = next })
-move-put kind set next out mid after l e f =
+pub move-put : (kind set : ℕ) (next : Auction) (out mid after : List ℕ) (a : Answered) → next .items ≤ 32 → mid ≡ sets out 0 (numberText 0 ++ (hex 2 kind ++ hex 8 set))
+    → a ≡ record { length = 13 + 4 * next .items; next = next } → after ≡ sets mid 12 (pricesText next) → Puts (movedBytes kind set next) out after a
+move-put kind set next out mid after a l e q f =
     let front : List ℕ = numberText 0 ++ (hex 2 kind ++ hex 8 set) in
     let long : length (front ++ pricesText next) ≡ 13 + 4 * next .items = length-append front (pricesText next) ∙ (let p = prices-long next in omega (arith, front-long kind set, p)) in
     record {
-      next = refl;
-      counted = sym long;
+      next = ap (λ (b : Answered). b .next) q;
+      counted = ap (λ (b : Answered). b .length) q ∙ sym long;
       small = omega (arith, long, l);
       put = f ∙ ap (λ (x : List ℕ). sets x 12 (pricesText next)) e ∙ sets-then out 0 12 front (pricesText next) (omega (arith, front-long kind set));
     }

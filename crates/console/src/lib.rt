@@ -9,10 +9,10 @@ use live::Kind;
 use live::Reply;
 use live::Step;
 ghost use mathlib.Core.Path.{_≡_};
-ghost use mathlib.Core.Bool.{Bool, true, false, cond, _&&_};
+ghost use mathlib.Core.Bool.{true};
 ghost use mathlib.Core.List.{_++_};
 ghost use mathlib.Core.Option.{Option·getD};
-ghost use Prim.Native.Nat.{ℕ, _+_, _*_, _-_, _/_, _≤_, _<_, min};
+ghost use Prim.Native.Nat.{_+_, _*_, _-_, _≤_, _<_, min};
 ghost use lib.ListN.{length, getD};
 ghost use lib.Seq.{sets};
 ghost use Rattle.sets.specs.Lists.{places};
@@ -235,14 +235,18 @@ fn replied(out: &mut [u8], reply: Reply) -> Answered
     Answered { length: 3, next }
 }
 
-// The record's prices, to the line's end.
-fn put_prices(out: &mut [u8], at: usize, held: Auction)
-    requires { ⌜ (held .items ≤ 32) × (at + 129 ≤ length (now out)) ⌝ }
-    ensures { λ _. ⌜ now (out .exit) ≡ sets (now (out .entry)) at (pricesText held) ⌝ }
+// The record's prices, behind `at` bytes and to the line's end.
+fn priced(out: &mut [u8], at: usize, next: Auction) -> Answered
+    requires { ⌜ (next .items ≤ 32) × (at ≤ 12) × (274 ≤ length (now out)) ⌝ }
+    ensures { λ r. ⌜ (r ≡ record { length = at + 1 + 4 * next .items; next = next }) × (now (out .exit) ≡ sets (now (out .entry)) at (pricesText next)) ⌝ }
 {
-    let items = held.items;
-    let prices = held.prices;
+    let items = next.items;
+    let prices = next.prices;
     lines::write_prices(out, at, items, &prices);
+    Answered {
+        length: at + 1 + 4 * items,
+        next,
+    }
 }
 
 // The answer to an opening.
@@ -250,17 +254,11 @@ fn opened(out: &mut [u8], reply: Reply) -> Answered
     requires { ⌜ (274 ≤ length (now out)) × (reply .number ≡ 0 → reply .next .items ≤ 32) ⌝ }
     ensures { λ r. ⌜ Puts (opens reply) (now (out .entry)) (now (out .exit)) r ⌝ }
 {
-    let number = reply.number;
-    if number != 0 {
+    if reply.number != 0 {
         return replied(out, reply);
     }
-    let next = reply.next;
     put_text(out, 0);
-    put_prices(out, 2, next);
-    Answered {
-        length: 3 + 4 * next.items,
-        next,
-    }
+    priced(out, 2, reply.next)
 }
 
 // A round's number, kind and item set.
@@ -279,11 +277,7 @@ fn moved(out: &mut [u8], kind: u32, set: u32, next: Auction) -> Answered
     ensures { λ r. ⌜ Puts (record { bytes = numberText 0 ++ (hex 2 kind ++ hex 8 set) ++ pricesText next; next = next }) (now (out .entry)) (now (out .exit)) r ⌝ }
 {
     put_round(out, kind, set);
-    put_prices(out, 12, next);
-    Answered {
-        length: 13 + 4 * next.items,
-        next,
-    }
+    priced(out, 12, next)
 }
 
 // The answer to an end.

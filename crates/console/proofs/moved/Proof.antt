@@ -7,23 +7,19 @@ use Rattle.console.proofs.moved.Tie as tie
 put-round-requires : tie.Need-put-round-requires
 put-round-requires c κs = search needs
 
-put-prices-requires : tie.Need-put-prices-requires
-put-prices-requires c κs = search needs
-
-mul-t10 : tie.Need-mul-t10
-mul-t10 c = search needs
-
-add-t11 : tie.Need-add-t11
-add-t11 c = search needs
+priced-requires : tie.Need-priced-requires
+priced-requires c κs = search needs
 
 same-length : tie.Need-same-length
 same-length c = search needs
 
 returns : tie.Need-returns
 returns c =
-    let a = c .before .before .before .before .before .before .before .before .before .before .args in
-    move-put (a .kind) (a .set) (a .next) (a .out .now) (c .before .before .before .before .before .before .before .put-round .last .0) (c .before .before .before .put-prices .last .0) (c .before .before .before .before .before .before .before .before .before .before .pre .1) (c .before .before .before .before .before .before .before .put-round .ensures) (c .before .before .before .put-prices .ensures)
+    let s = c .before .before .before .before .before .before .before .before .before in
+    let a = s .args in
+    let m = c .before .before .before .before .before .before .put-round in
+    let p = c .before .before .priced in
+    move-put (a .kind) (a .set) (a .next) (a .out .now) (m .last .0) (p .last .0) (p .result) (s .pre .1) (m .ensures) (p .ensures .0) (p .ensures .1)
 
 pub moved-spec : {M : Type 1} → statement M
-moved-spec =
-    tie.close (tie.spec put-round-requires put-prices-requires mul-t10 add-t11 same-length returns)
+moved-spec = tie.close (tie.spec put-round-requires priced-requires same-length returns)

@@ -16,31 +16,31 @@ same-length : tie.Need-same-length
 same-length c = search needs
 
 returns : tie.Need-returns
-returns c = open-kept (c .before .before .before .before .before .before .args .reply) (c .before .before .before .before .before .before .args .out .now) (c .before .before .replied .last .0) (c .before .before .replied .result) (c .before .before .before .before .if1 .taken) (c .before .before .replied .ensures)
+returns c =
+    let a = c .before .before .before .before .before .before .before .args in
+    let p = c .before .before .replied in
+    open-kept (a .reply) (a .out .now) (p .last .0) (p .result) (c .before .before .before .before .if1 .taken) (p .ensures)
 
 put-text-requires : tie.Need-put-text-requires
 put-text-requires c κs = search needs
 
-put-prices-requires : tie.Need-put-prices-requires
-put-prices-requires c κs =
-    let a = c .before .before .before .before .before .before .before .before .args in
-    let z = c .before .before .before .before .before .before .before .before .pre .1 (c .before .before .before .before .before .before .if1 .left) in
-    let e : length (c .before .before .before .put-text .last .0) ≡ length (a .out .now) = ap length (c .before .before .before .put-text .ensures) ∙ length-sets (a .out .now) 0 (numberText 0) in
-    (z, omega (arith, e, c .before .before .before .before .before .before .before .before .pre .0))
-
-mul-t13 : tie.Need-mul-t13
-mul-t13 c = record { fits = omega (arith, c .before .before .before .before .before .before .before .before .before .before .before .before .pre .1 (c .before .before .before .before .before .before .before .before .before .before .if1 .left)) }
-
-add-t14 : tie.Need-add-t14
-add-t14 c = record { fits = omega (arith, c .before .before .before .before .before .before .before .before .before .before .before .before .pre .1 (c .before .before .before .before .before .before .before .before .before .before .if1 .left)) }
+priced-requires : tie.Need-priced-requires
+priced-requires c κs =
+    let s = c .before .before .before .before .before .before .before .before in
+    let t = c .before .before .before .put-text in
+    let e : length (t .last .0) ≡ length (s .args .out .now) = ap length (t .ensures) ∙ length-sets (s .args .out .now) 0 (numberText 0) in
+    (s .pre .1 (c .before .before .before .before .before .if1 .left), omega arith, omega (arith, e, s .pre .0))
 
 same-length-2 : tie.Need-same-length-2
 same-length-2 c = search needs
 
 returns-2 : tie.Need-returns-2
 returns-2 c =
-    let a = c .before .before .before .before .before .before .before .before .before .before .before .before .args in
-    open-put (a .reply) (a .out .now) (c .before .before .before .before .before .before .before .put-text .last .0) (c .before .before .before .put-prices .last .0) (c .before .before .before .before .before .before .before .before .before .before .if1 .left) (c .before .before .before .before .before .before .before .before .before .before .before .before .pre .1 (c .before .before .before .before .before .before .before .before .before .before .if1 .left)) (c .before .before .before .before .before .before .before .put-text .ensures) (c .before .before .before .put-prices .ensures)
+    let s = c .before .before .before .before .before .before .before .before .before .before .before in
+    let z = c .before .before .before .before .before .before .before .before .if1 .left in
+    let t = c .before .before .before .before .before .before .put-text in
+    let p = c .before .before .priced in
+    open-put (s .args .reply) (s .args .out .now) (t .last .0) (p .last .0) (p .result) z (s .pre .1 z) (t .ensures) (p .ensures .0) (p .ensures .1)
 
 pub opened-spec : {M : Type 1} → statement M
 opened-spec =
@@ -50,8 +50,6 @@ opened-spec =
     same-length
     returns
     put-text-requires
-    put-prices-requires
-    mul-t13
-    add-t14
+    priced-requires
     same-length-2
     returns-2)
