@@ -207,16 +207,13 @@ pub fn sealed(items: u32, bidders: u32, start: &[u16], bids: &[u16]) -> Closing
         };
     }
     let path = rounds(start, bids, m, n);
-    let ups = path.raised;
-    let downs = path.lowered;
     let last = path.prices;
     let d = demands_at(&last, bids, m, n);
-    let sets = d.sets;
-    let names = assignment::first(&sets, d.nulls, round::positive(&last), bidders);
+    let names = assignment::first(&d.sets, d.nulls, round::positive(&last), bidders);
     Closing {
         refusal: 0,
-        raised: ups,
-        lowered: downs,
+        raised: path.raised,
+        lowered: path.lowered,
         prices: last,
         assignment: names,
     }

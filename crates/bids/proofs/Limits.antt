@@ -67,7 +67,7 @@ module _ (m n : ℕ) (start bids : List ℕ) where
   unfolding each4095 amount
   each-make xs e h = and-both (eqb (length xs) m) _ (eq-eqb (length xs) m e) (all-make m (λ k. leb (getD xs k 0) 4095) (λ k l. le-leb (getD xs k 0) 4095 (h k l)))
 
-  pub within : Fine m n start bids → withinLimits (sheetOf m n start bids) ≡ true
+  within : Fine m n start bids → withinLimits (sheetOf m n start bids) ≡ true
   unfolding withinLimits sheetOf
   within f =
       let len : length (rowsOf m n bids) ≡ n = rows-length m n bids in
