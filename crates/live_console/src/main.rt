@@ -3,9 +3,7 @@
 use libc::STDIN_FILENO;
 use libc::STDOUT_FILENO;
 use live::Auction;
-ghost use Prim.Native.Nat.{_≤_};
-ghost use mathlib.Core.Path.{_≡_};
-ghost use lib.ListN.{length, take};
+ghost use lib.ListN.{length};
 ghost use Rattle.io.specs.Counts.{Counts};
 
 // What is kept between bytes: the record, and how many bytes of a line are in. More than there is room for: the line is too long.
