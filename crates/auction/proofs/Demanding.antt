@@ -17,17 +17,15 @@ use Rattle.sets.proofs.Filling.{Filled, fill-start, fill-next}
 use Rattle.round.proofs.Adding.{add-next}
 use Rattle.round.proofs.Reporting.{map-tabulate}
 use Rattle.bids.specs.Lent.{lineOf, rowsOf, sheetOf}
-use Rattle.bids.specs.Line.{lineShown}
 use Rattle.bids.proofs.Lent.{line-inside, line-length}
 use Rattle.bids.proofs.Limits.{fine, within-accepted}
-use Rattle.bids.proofs.Showing.{line-there}
 use Rattle.auction.specs.Steps.{Counted, Demanded}
 
 -- the bids of a sheet within the limits
 pub counted : (m n : ℕ) (start bids : List ℕ) → length bids ≡ n * m → withinLimits (sheetOf m n start bids) ≡ true → Counted m n bids
 counted m n start bids e w =
     let f = fine m n start bids (within-accepted m n start bids e w) in
-    record { some-item = f .some-item; max-items = f .max-items; max-bidders = f .max-bidders; long = e }
+    record { max-items = f .max-items; max-bidders = f .max-bidders; long = e }
 
 -- two lists by places are one where they agree
 tabulate-cong : {A : Type 0} (n : ℕ) (f g : ℕ → A) (i : ℕ) → ((k : ℕ) → i ≤ k → k < i + n → f k ≡ g k) → tabulate n f i ≡ tabulate n g i
@@ -47,18 +45,15 @@ module _ (m n : ℕ) (prices bids : List ℕ) where
   unfolding setOf
   collect-start = record { most = omega arith; filled = fill-start 64 _; null = refl }
 
-  module _ (c : Counted m n bids) (b : ℕ) (l : b < n) (line : List ℕ) (e : line ≡ lineShown m n (b + 1) bids) where
-    line-is : line ≡ lineOf m bids b
-    line-is = e ∙ line-there m n b bids (c .some-item) (c .max-items) (c .max-bidders) (c .long) l
-
+  module _ (c : Counted m n bids) (b : ℕ) (l : b < n) (line : List ℕ) (e : line ≡ lineOf m bids b) where
     line-long : length line ≡ m
-    line-long = ap length line-is ∙ line-length m bids b (line-inside m n b (length bids) (c .long) l)
+    line-long = ap length e ∙ line-length m bids b (line-inside m n b (length bids) (c .long) l)
 
     pub line-short : length line ≤ 32
     line-short = omega (arith, line-long, c .max-items)
 
     demand-is : demand (length line) prices line ≡ demand m prices (lineOf m bids b)
-    demand-is = ap₂ (λ (k : ℕ) (x : List ℕ). demand k prices x) line-long line-is
+    demand-is = ap₂ (λ (k : ℕ) (x : List ℕ). demand k prices x) line-long e
 
     pub collect-next : (sets : List ℕ) (nulls : ℕ) → Collected sets nulls b → (items : ℕ) → items ≡ demand (length line) prices line .items
         → (on : Bool) → on ≡ demand (length line) prices line .null → (next : ℕ) → next ≡ setOf 64 (λ k. has nulls k || (on && eqb k (b + 1))) → Collected (set sets b items) next (b + 1)

@@ -16,7 +16,6 @@ pub record Highest (n : ℕ) (prices bids : List ℕ) (x : ℕ) : Type 0 where
 
 -- what the steps ask of the lent bids: counts in order, and a bid for each bidder and item
 pub record Counted (m n : ℕ) (bids : List ℕ) : Type 0 where
-  pub some-item : 1 ≤ m
   pub max-items : m ≤ 32
   pub max-bidders : n ≤ 64
   pub long : length bids ≡ n * m

@@ -1,14 +1,14 @@
 // The sealed auction.
 ghost use mathlib.Core.Path.{_≡_};
 ghost use mathlib.Core.Bool.{true};
-ghost use Prim.Native.Nat.{_+_, _*_, _≤_, max};
+ghost use Prim.Native.Nat.{_+_, _*_, _≤_, _<_, max};
 ghost use lib.ListN.{length};
 ghost use Rattle.sets.specs.Lists.{places};
 ghost use Rattle.rule.specs.Sheet.{withinLimits};
 ghost use Rattle.rule.specs.Demand.{demand, demands};
 ghost use Rattle.rule.specs.Excess.{excessDemand, excessSupply, positive};
 ghost use Rattle.rule.specs.Round.{path, close};
-ghost use Rattle.bids.specs.Lent.{rowsOf, sheetOf};
+ghost use Rattle.bids.specs.Lent.{lineOf, rowsOf, sheetOf};
 ghost use Rattle.auction.specs.Sealed.{sealedOf, Promised};
 ghost use Rattle.auction.specs.Steps.{Highest, Counted, Demanded};
 
@@ -73,6 +73,16 @@ fn demand_of(prices: &[u16; 32], line: &[u16]) -> Demand
     }
 }
 
+// The bids of the bidder at place b. `bids::line` shows the same part, but tests its arguments at every bidder.
+fn row(bids: &[u16], items: usize, b: usize) -> &[u16]
+    requires { ⌜ (items ≤ 32) × (b < 64) × (b * items + items ≤ length (now bids)) ⌝ }
+    ensures { λ r. ⌜ now r ≡ lineOf items (now (bids .entry)) b ⌝ }
+{
+    let start = b * items;
+    let end = start + items;
+    &bids[start..end]
+}
+
 // The demands of all bidders: an item set for each, and the set of those who demand null.
 struct Demands {
     sets: [u32; 64],
@@ -87,7 +97,7 @@ fn demands_at(prices: &[u16; 32], bids: &[u16], items: usize, bidders: usize) ->
     let mut nulls: u64 = 0;
     let mut b: usize = 0;
     while b < bidders {
-        let d = demand_of(prices, bids::line(bids, items, bidders, b + 1));
+        let d = demand_of(prices, row(bids, items, b));
         sets[b] = d.items;
         nulls = round::add_bidder(nulls, b + 1, d.null);
         b += 1;

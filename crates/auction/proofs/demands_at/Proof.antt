@@ -1,5 +1,8 @@
 -- `auction::demands_at` meets its contract. Each turn collects one bidder's demand. Assumes nothing.
 use Prim.Native.Nat.{_-_}
+use native.Mathlib.Omega.{arith}
+use lib.ListN.{length}
+use Rattle.bids.proofs.Lent.{line-inside}
 use Rattle.auction.proofs.Demanding.{Collected, line-short, collect-start, collect-next, collect-end}
 use borrow.Author.Needs.{needs}
 use Rattle.auction.proofs.demands_at.Statement.{statement}
@@ -14,16 +17,17 @@ abbrev μ-loop : tie.MeasureT-loop
 loop-holds : tie.Need-loop-holds Inv-loop μ-loop
 loop-holds c = let a = c .before .args in collect-start (a .items) (a .bidders) (a .prices .now) (a .bids .now)
 
-add-line : tie.Need-add-line Inv-loop μ-loop
-add-line c = search needs
-
-line-requires : tie.Need-line-requires Inv-loop μ-loop
-line-requires c κs = search needs
+row-requires : tie.Need-row-requires Inv-loop μ-loop
+row-requires c κs =
+    let a = c .before .before .before .args in
+    let pre = c .before .before .before .pre in
+    let at = c .before .loop in
+    (pre .max-items, omega (arith, c .loop-test .taken, pre .max-bidders), line-inside (a .items) (a .bidders) (at .b) (length (a .bids .now)) (pre .long) (c .loop-test .taken))
 
 demand-of-requires : tie.Need-demand-of-requires Inv-loop μ-loop
 demand-of-requires c κs =
     let a = c .before .before .before .before .args in
-    line-short (a .items) (a .bidders) (a .prices .now) (a .bids .now) (c .before .before .before .before .pre) (c .before .before .loop .b) (c .before .loop-test .taken) (c .line .result .now) (c .line .ensures)
+    line-short (a .items) (a .bidders) (a .prices .now) (a .bids .now) (c .before .before .before .before .pre) (c .before .before .loop .b) (c .before .loop-test .taken) (c .row .result .now) (c .row .ensures)
 
 mul-sets : tie.Need-mul-sets Inv-loop μ-loop
 mul-sets c = search needs
@@ -47,7 +51,7 @@ loop-again : tie.Need-loop-again Inv-loop μ-loop
 loop-again c =
     let a = c .before .before .before .before .before .before .args in
     let at = c .before .before .before .before .loop in
-    let line = c .before .before .line in
+    let line = c .before .before .row in
     let d = c .before .demand-of in
     collect-next (a .items) (a .bidders) (a .prices .now) (a .bids .now) (c .before .before .before .before .before .before .pre) (at .b) (c .before .before .before .loop-test .taken) (line .result .now) (line .ensures)
     (at .sets) (at .nulls) (at .inv) (d .result .items) (d .ensures .1) (d .result .null) (d .ensures .0) (c .add-bidder .result) (c .add-bidder .ensures)
@@ -65,8 +69,7 @@ demands-at-spec =
     Inv-loop
     μ-loop
     loop-holds
-    add-line
-    line-requires
+    row-requires
     demand-of-requires
     mul-sets
     array-write-sets
