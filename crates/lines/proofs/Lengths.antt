@@ -1,12 +1,12 @@
 -- How long the lines and the closing sheet are. Assumes nothing.
-use Prim.Native.Nat.{ℕ, zero, suc, _+_, _*_, _≤_}
+use Prim.Native.Nat.{ℕ, zero, suc, _+_, _*_}
 use mathlib.Core.Path.{_≡_, refl, ap}
 use mathlib.Core.List.{List, _++_, append-assoc}
 use native.Mathlib.Omega.{arith}
-use lib.ListN.{length, getD, drop, length-append, length-drop}
+use lib.ListN.{length, getD, length-append}
 use Rattle.digits.specs.Digits.{hex}
 use Rattle.digits.proofs.Digits.{hex-length}
-use Rattle.lines.specs.Lines.{newline, joined, closingSheet, closingLength, writtenTo}
+use Rattle.lines.specs.Lines.{newline, joined, closingSheet, closingLength}
 
 pub joined-length : (n c : ℕ) (f : ℕ → List ℕ) → ((k : ℕ) → length (f k) ≡ c) → length (joined n f) ≡ c * n
 unfolding joined
@@ -61,7 +61,3 @@ closing-length m n ups downs prices options =
       line-length m 4 prices,
       line-length n 2 options,
     )
-
-pub written-length : (out sheet : List ℕ) → length sheet ≤ length out → length (writtenTo out sheet) ≡ length out
-unfolding writtenTo
-written-length out sheet l = omega (arith, length-append sheet (drop (length sheet) out), length-drop (length sheet) out)

@@ -32,9 +32,6 @@ module _ (d : List ℕ) (bidders : ℕ) (some : NoSeats d bidders → ⊥) where
   seats l zero ln s = (l, s, λ i li f. f)
   seats l (suc n) ln s = go (seats l n (omega arith) s)
     where
-      Next : Type 0
-      Next = (l′ : List ℕ) × Seated d bidders l′ (n + 1) × Filled l l′
-
       empty : (x : ℕ) → (x ≡ 0) ⊎ (1 ≤ x)
       empty zero = inl refl
       empty (suc x) = inr (omega arith)

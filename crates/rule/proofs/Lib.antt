@@ -22,5 +22,4 @@ pub mod Total
 pub mod Balance
 pub mod Path
 pub mod Closing
-pub mod Stages
 pub mod Refusal
