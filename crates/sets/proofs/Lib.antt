@@ -6,6 +6,7 @@ pub mod Sums
 pub mod Bits
 pub mod Members
 pub mod Lowest
+pub mod Taking
 pub mod Words
 pub mod Largest
 pub mod Lists

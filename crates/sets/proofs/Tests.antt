@@ -1,11 +1,11 @@
--- Tests and what they say: two numbers compared, the connectives, a test at each or some number below n, and the least at which it passes.
--- Assumes nothing.
+-- Tests and what they say: two numbers compared, the connectives, a test at each or some number below n, and the least at which it passes; and
+-- where a loop's count ends. Assumes nothing.
 use Prim.Native.Nat.{ℕ, zero, suc, _≤_, _<_, zero-le, suc-le-suc}
 use mathlib.Core.Path.{_≡_, refl, sym, ap₂, _∙_, subst}
 use mathlib.Core.Bool.{Bool, true, false, _&&_, _||_, not, false≢true, true≢false}
 use mathlib.Core.Logic.{_⊎_, inl, inr, ⊎-elim}
 use native.Mathlib.Omega.{arith}
-use native.Mathlib.Nat.{zero-lt-suc, not-suc-le-zero, lt-suc-self, eq-or-lt-of-le, le-of-suc-le-suc}
+use native.Mathlib.Nat.{zero-lt-suc, not-suc-le-zero, lt-suc-self, eq-or-lt-of-le, le-of-suc-le-suc, le-antisymm}
 use Rattle.sets.specs.Count.{_⇒_, allBelow, anyBelow}
 
 -- ---- numbers in order
@@ -106,6 +106,11 @@ pub any-cong : (n : ℕ) (f g : ℕ → Bool) → ((k : ℕ) → k < n → f k �
 unfolding anyBelow
 any-cong zero f g h = refl
 any-cong (suc n) f g h = ap₂ _||_ (h n (omega arith)) (any-cong n f g (λ k l. h k (omega arith)))
+
+-- ---- where a loop's count has come to its end
+
+pub at-end : (P : ℕ → Type 0) {k n : ℕ} → k ≤ n → n ≤ k → P k → P n
+at-end P l h = subst P (le-antisymm l h)
 
 -- ---- the least k below n at which f is true, or none
 
