@@ -1,13 +1,37 @@
 // What is done with prices alone. They stand in 32 places; where there are fewer items, the places past them hold zeros, and the laws of proofs/
 // carry each result over.
 ghost use mathlib.Core.Path.{_≡_};
-ghost use Prim.Native.Nat.{_+_, _-_, min};
+ghost use Prim.Native.Nat.{_+_, _-_, min, max};
 ghost use lib.ListN.{getD};
 ghost use Rattle.sets.specs.Count.{toNat};
 ghost use Rattle.sets.specs.Lists.{places};
 ghost use Rattle.rule.specs.Round.{lower};
 ghost use Rattle.rule.specs.Refusal.{anyOver};
 ghost use Rattle.prices.specs.Prices.{raisePlaces};
+
+// The smaller of two amounts.
+pub fn smaller(a: u16, b: u16) -> u16
+    ensures { λ r. ⌜ r ≡ min a b ⌝ }
+{
+    if a < b { a } else { b }
+}
+
+// The larger of two amounts.
+pub fn larger(a: u16, b: u16) -> u16
+    ensures { λ r. ⌜ r ≡ max a b ⌝ }
+{
+    if a < b { b } else { a }
+}
+
+// How far one amount is over another, and 0 where it is not.
+pub fn over(a: u16, b: u16) -> u16
+    ensures { λ r. ⌜ r ≡ a - b ⌝ }
+{
+    if a < b {
+        return 0;
+    }
+    a - b
+}
 
 // The price, up by 1 where `on` says so; 65,535 stays.
 fn up(price: u16, on: bool) -> u16
@@ -61,18 +85,17 @@ pub fn lowered(prices: &[u16; 32], set: u32) -> [u16; 32]
     next
 }
 
-// Some amount is above 4,095: what 4 asks of starting prices and 5 of bids.
+// Some amount is above 4,095: what 4 asks of starting prices and 5 of bids. The loop has no early end, so that the compiler takes several at a time.
 pub fn any_over(xs: &[u16]) -> bool
     ensures { λ r. ⌜ r ≡ anyOver (now (xs .entry)) ⌝ }
 {
+    let mut most: u16 = 0;
     let mut i: usize = 0;
     while i < xs.len() {
-        if 4095 < xs[i] {
-            return true;
-        }
+        most = larger(most, xs[i]);
         i += 1;
     }
-    false
+    4095 < most
 }
 
 // What stands at a place, and 0 past the end.

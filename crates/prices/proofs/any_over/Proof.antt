@@ -1,31 +1,33 @@
--- `prices::any_over` meets its contract. No amount passed so far is above 4,095. Assumes nothing.
-use Prim.Native.Nat.{ℕ, _-_, _≤_, _<_}
-use mathlib.Core.Path.{sym}
+-- `prices::any_over` meets its contract. The largest so far is above 4,095 just where one of those passed is. Assumes nothing.
+use Prim.Native.Nat.{_-_, _≤_}
+use mathlib.Core.Path.{_≡_, refl}
 use native.Mathlib.Omega.{arith}
+use lib.Dec.{ltb}
 use lib.ListN.{length, getD}
-use borrow.Author.Count.{below-none, below-more}
-use Rattle.rule.proofs.Refusal.{over-some, over-not}
+use Rattle.sets.specs.Count.{anyBelow}
+use Rattle.prices.proofs.Amounts.{over-more, over-end}
 use borrow.Author.Needs.{needs}
 use Rattle.prices.proofs.any_over.Statement.{statement}
 use Rattle.prices.proofs.any_over.Tie as tie
 
 abbrev Inv-loop : tie.InvT-loop
-Inv-loop xs i₀ i = (i ≤ length xs) × ((k : ℕ) → k < i → getD xs k 0 ≤ 4095)
+Inv-loop xs most₀ i₀ most i = (i ≤ length xs) × (ltb 4095 most ≡ anyBelow i (λ k. ltb 4095 (getD xs k 0)))
 
 abbrev μ-loop : tie.MeasureT-loop
-μ-loop xs i₀ i = length xs - i
+μ-loop xs most₀ i₀ most i = length xs - i
 
 loop-holds : tie.Need-loop-holds Inv-loop μ-loop
-loop-holds c = (omega arith, below-none _)
+unfolding anyBelow
+loop-holds c = (omega arith, refl)
 
-mul-if1 : tie.Need-mul-if1 Inv-loop μ-loop
-mul-if1 c = search needs
+mul-larger : tie.Need-mul-larger Inv-loop μ-loop
+mul-larger c = search needs
 
-shared-slice-read-if1 : tie.Need-shared-slice-read-if1 Inv-loop μ-loop
-shared-slice-read-if1 c = search needs
+shared-slice-read-larger : tie.Need-shared-slice-read-larger Inv-loop μ-loop
+shared-slice-read-larger c = search needs
 
-returns : tie.Need-returns Inv-loop μ-loop
-returns c = sym (over-some (c .before .before .before .before .args .xs .now) (c .before .before .before .loop .i) (c .before .before .loop-test .taken) (c .if1 .taken))
+larger-requires : tie.Need-larger-requires Inv-loop μ-loop
+larger-requires c κs = search needs
 
 add-i : tie.Need-add-i Inv-loop μ-loop
 add-i c = search needs
@@ -34,13 +36,10 @@ loop-less : tie.Need-loop-less Inv-loop μ-loop
 loop-less c = search needs
 
 loop-again : tie.Need-loop-again Inv-loop μ-loop
-loop-again c =
-    let at = c .before .before .before .loop in
-    let lt = c .before .before .loop-test .taken in
-    (omega arith, below-more _ _ (at .inv .1) (let l = c .if1 .left in omega arith))
+loop-again c = (omega (arith, c .before .before .loop-test .taken), over-more (c .before .before .before .before .before .args .xs .now) (c .before .before .before .loop .i) (c .before .before .before .loop .most) (c .larger .result) (c .before .before .before .loop .inv .1) (c .larger .ensures))
 
-returns-2 : tie.Need-returns-2 Inv-loop μ-loop
-returns-2 c = sym (over-not (c .before .before .args .xs .now) (λ k l. c .before .loop .inv .1 k (omega (arith, l, c .loop-test .left))))
+returns : tie.Need-returns Inv-loop μ-loop
+returns c = over-end (c .before .before .before .args .xs .now) (c .before .loop .i) (c .before .loop .most) (c .before .loop .inv .0) (c .loop-test .left) (c .before .loop .inv .1)
 
 pub any-over-spec : {M : Type 1} → statement M
 any-over-spec =
@@ -49,10 +48,10 @@ any-over-spec =
     Inv-loop
     μ-loop
     loop-holds
-    mul-if1
-    shared-slice-read-if1
-    returns
+    mul-larger
+    shared-slice-read-larger
+    larger-requires
     add-i
     loop-less
     loop-again
-    returns-2)
+    returns)
