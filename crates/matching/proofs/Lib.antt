@@ -6,6 +6,7 @@ pub mod Steps
 pub mod Outcomes
 pub mod Largest
 pub mod Settling
+pub mod Looking
 pub mod Excess
 pub mod Seating
 pub mod Existence

@@ -4,7 +4,8 @@ ghost use mathlib.Core.Path.{_≡_};
 ghost use mathlib.Core.Bool.{true, false, _&&_};
 ghost use Prim.Native.Nat.{ℕ, _+_, _-_, _≤_, _<_};
 ghost use lib.ListN.{getD, set, replicate};
-ghost use Rattle.sets.specs.Bit.{isSet};
+ghost use lib.Dec.{eqb};
+ghost use Rattle.sets.specs.Bit.{isSet, has, lowest};
 ghost use Rattle.matching.specs.Demand.{largestExcess, Covered};
 ghost use Rattle.matching.specs.Chain.{Kept, Placed, Taken, Settled, Seated, Seats};
 
@@ -71,12 +72,32 @@ fn take(
     false
 }
 
-// Places one bidder more, where nobody goes without again. Answers what failed chains have entered: it stays entered for the next bidder,
-// and what a chain that succeeds has entered does not.
+// The lowest of the items that nobody holds, and 0 if all are held.
+fn free_item(holder: &[u8; 32], items: u32) -> usize
+    ensures { λ r. ⌜ r ≡ lowest 32 (λ i. has items i && eqb (getD (now (holder .entry)) (i - 1) 0) 0) ⌝ }
+{
+    let mut rest = items;
+    while rest != 0 {
+        let item = sets::lowest_item(rest);
+        if holder[item - 1] == 0 {
+            return item;
+        }
+        rest = sets::without_item(rest, item);
+    }
+    0
+}
+
+// Places one bidder more, where nobody goes without again: at a free item if there is one, and else along a chain. Answers what failed chains
+// have entered: it stays entered for the next bidder, and what a chain that succeeds has entered does not.
 fn settle(holder: &mut [u8; 32], entered: u32, demand: &[u32; 64], bidder: usize) -> u32
     requires { ⌜ (0 < bidder) × (bidder ≤ 64) × Settled (now demand) (now holder) entered (bidder - 1) ⌝ }
     ensures { λ r. ⌜ Settled (now (demand .entry)) (now (holder .exit)) r bidder ⌝ }
 {
+    let item = free_item(holder, sets::other_items(demand[bidder - 1], entered));
+    if item != 0 {
+        give(holder, item, bidder);
+        return entered;
+    }
     let mut after = entered;
     if place(holder, &mut after, demand, 0, bidder) {
         return entered;
