@@ -1,11 +1,11 @@
 -- A bidder's line: what its number says, and the part that is shown. Assumes nothing.
-use Prim.Native.Nat.{ℕ, zero, suc, _+_, _-_, _*_, _≤_}
+use Prim.Native.Nat.{ℕ, zero, suc, _+_, _-_, _*_, _≤_, _<_}
 use mathlib.Core.Path.{_≡_, refl, sym, ap, _∙_}
 use mathlib.Core.List.{List, []}
 use native.Mathlib.Omega.{arith}
 use lib.ListN.{length}
 use Rattle.rule.specs.Refusal.{badItems, badBidders, badLength, badBidder}
-use Rattle.rule.proofs.Refusal.{none, in-range, exact-is}
+use Rattle.rule.proofs.Refusal.{passed, none, first-nil, in-range, range-in, exact, exact-is}
 use Rattle.bids.specs.Lent.{lineOf}
 use Rattle.bids.specs.Line.{lineRefusal, shown, lineShown}
 use Rattle.bids.proofs.Lent.{line-inside}
@@ -45,3 +45,14 @@ module _ (m n b : ℕ) (bids : List ℕ) where
   pub line-is : lineRefusal m n b bids ≡ 0 → lineOf m bids (b - 1) ≡ lineShown m n b bids
   unfolding lineShown shown
   line-is e = ap (λ (y : ℕ). shown y (lineOf m bids (b - 1))) (sym e)
+
+-- the line of a bidder among n, counted from 0
+pub shown-at : (m n b : ℕ) (bids : List ℕ) → 1 ≤ m → m ≤ 32 → n ≤ 64 → length bids ≡ n * m → b < n → lineShown m n (b + 1) bids ≡ lineOf m bids b
+unfolding lineRefusal badItems badBidders badBidder
+shown-at m n b bids some most max long l =
+    sym (line-is m n (b + 1) bids accepted) ∙ (let e : b + 1 - 1 ≡ b = omega arith in ap (lineOf m bids) e)
+  where
+    accepted : lineRefusal m n (b + 1) bids ≡ 0
+    accepted =
+        passed 1 (badItems m) _ (range-in 32 m some most) ∙ passed 2 (badBidders n) _ (range-in 64 n (omega arith) max) ∙ passed 3 (badLength bids (n * m)) _ (exact bids (n * m) long)
+        ∙ passed 7 (badBidder n (b + 1)) _ (range-in n (b + 1) (omega arith) (omega arith)) ∙ first-nil

@@ -1,3 +1,4 @@
 pub mod Lent
 pub mod Refusal
 pub mod Line
+pub mod Fit
