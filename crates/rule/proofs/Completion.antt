@@ -6,13 +6,15 @@ use mathlib.Core.List.{List, [], _∷_, _++_}
 use mathlib.Core.Logic.{_⊎_, inl, inr}
 use native.Mathlib.Omega.{arith}
 use native.Mathlib.Decide.{decLe}
-use lib.ListN.{length, length-append, List·getD-append}
+use lib.ListN.{length, length-append, getD, List·getD-append}
 use lib.Seq.{append-snoc, getD-append-add}
 use Rattle.sets.specs.Bit.{has, lowest}
 use Rattle.rule.specs.Demand.{Demand, wants, nth}
 use Rattle.sets.specs.Lists.{tabulate}
+use Rattle.sets.proofs.Counting.{lt-or-le}
 use Rattle.sets.proofs.Lists.{tabulate-length, tabulate-at}
 use Rattle.rule.specs.Assignment.{option, fits, someList, choose}
+pub use Rattle.rule.specs.Completion.{Begun, Rest}
 use Rattle.rule.proofs.Order.{Listed, none, listed, some-make, choose-passes}
 use Rattle.rule.proofs.Fitting.{Fits, fits-use, fits-make}
 
@@ -31,28 +33,36 @@ choose-next m j f ys =
 pub some-use : (m n : ℕ) (f : List ℕ → Bool) → someList m n f ≡ true → (xs : List ℕ) × (Listed m n xs) × (f xs ≡ true)
 some-use m n f e = let w = choose-passes m n f e in (choose m n f, w .0, w .1)
 
+-- ---- the options of ys and one more
+
+pub option-low : (ys zs : List ℕ) (a : ℕ) → a < length ys → option (ys ++ zs) a ≡ option ys a
+unfolding option
+option-low ys zs a l = List·getD-append ys zs 0 a l
+
+pub option-at : (ys zs : List ℕ) (x : ℕ) → option (ys ++ x ∷ zs) (length ys) ≡ x
+unfolding option
+option-at ys zs x = let e : length ys + 0 ≡ length ys = omega arith in ap (λ (a : ℕ). getD (ys ++ x ∷ zs) a 0) (sym e) ∙ getD-append-add ys (x ∷ zs) 0 0
+
+pub snoc-length : (ys : List ℕ) (x : ℕ) → length (ys ++ (x ∷ [])) ≡ suc (length ys)
+snoc-length ys x = omega (arith, length-append ys (x ∷ []))
+
+-- a place of ys and one more is a place of ys, or the last
+abbrev pub Snoc : List ℕ → ℕ → ℕ → Type 0
+Snoc ys x a = ((a < length ys) × (option (ys ++ (x ∷ [])) a ≡ option ys a)) ⊎ ((a ≡ length ys) × (option (ys ++ (x ∷ [])) a ≡ x))
+
+pub snoc-split : (ys : List ℕ) (x a : ℕ) → a < length (ys ++ (x ∷ [])) → Snoc ys x a
+snoc-split ys x a l = go (lt-or-le a (length ys))
+  where
+    go : (a < length ys) ⊎ (length ys ≤ a) → Snoc ys x a
+    go (inl q) = inl (q, option-low ys (x ∷ []) a q)
+    go (inr q) = let e : a ≡ length ys = omega (arith, l, q, snoc-length ys x) in inr (e, ap (option (ys ++ (x ∷ []))) e ∙ option-at ys [] x)
+
 module _ (m n : ℕ) (d : ℕ → ℕ → Bool) (above : ℕ → Bool) (ys : List ℕ) where
-  -- the bidders so far have something of their demand, and no item goes to two of them
-  pub record Begun : Type 0 where
-    pub small : (b : ℕ) → b < length ys → option ys b < suc m
-    pub wanted : (b : ℕ) → b < length ys → d b (option ys b) ≡ true
-    pub once : (b c : ℕ) → b < length ys → c < length ys → 0 < option ys b → option ys b ≡ option ys c → b ≡ c
-
-  -- so have the others, of the items that are left, and every item of `above` goes to somebody
-  pub record Rest (to : ℕ → ℕ) : Type 0 where
-    pub small : (b : ℕ) → length ys ≤ b → b < n → to b < suc m
-    pub wanted : (b : ℕ) → length ys ≤ b → b < n → d b (to b) ≡ true
-    pub once : (b c : ℕ) → length ys ≤ b → b < n → length ys ≤ c → c < n → 0 < to b → to b ≡ to c → b ≡ c
-    pub left : (b c : ℕ) → length ys ≤ b → b < n → c < length ys → 0 < to b → option ys c ≡ to b → ⊥
-    pub covers : (i : ℕ) → i < suc m → above i ≡ true
-        → ((c : ℕ) × (c < length ys) × (option ys c ≡ i)) ⊎ ((b : ℕ) × (length ys ≤ b) × (b < n) × (to b ≡ i))
-
   low : (xs : List ℕ) (b : ℕ) → b < length ys → option (ys ++ xs) b ≡ option ys b
-  unfolding option
-  low xs b l = List·getD-append ys xs 0 b l
+  low xs = option-low ys xs
 
   -- a list that fits completes
-  pub fits-rest : (xs : List ℕ) → length ys ≤ n → Fits m n d above (ys ++ xs) → Rest (option (ys ++ xs))
+  pub fits-rest : (xs : List ℕ) → length ys ≤ n → Fits m n d above (ys ++ xs) → Rest m n d above ys (option (ys ++ xs))
   fits-rest xs k f =
       record {
         small = λ b lo l. f .assigns .small b l;
@@ -70,7 +80,7 @@ module _ (m n : ℕ) (d : ℕ → ℕ → Bool) (above : ℕ → Bool) (ys : Lis
       place i b l e (no h) = inl (b, omega arith, sym (low xs b (omega arith)) ∙ e)
 
   -- and what completes gives a list that fits
-  module _ (j : ℕ) (len : length ys + j ≡ n) (to : ℕ → ℕ) (b₀ : Begun) (r : Rest to) where
+  module _ (j : ℕ) (len : length ys + j ≡ n) (to : ℕ → ℕ) (b₀ : Begun m n d above ys) (r : Rest m n d above ys to) where
     unfoldable pub rest : List ℕ
     rest = tabulate j to (length ys)
 

@@ -81,7 +81,3 @@ over-not xs h =
     let more = ltb-true 4095 (getD xs (w .0) 0) (w .2) in
     let most = h (w .0) (w .1) in
     omega arith)
-
-pub over-some : (xs : List ℕ) (k : ℕ) → k < length xs → 4095 < getD xs k 0 → anyOver xs ≡ true
-unfolding anyOver
-over-some xs k l h = any-make (length xs) (λ k. ltb 4095 (getD xs k 0)) k l (lt-ltb 4095 (getD xs k 0) h)

@@ -4,6 +4,7 @@ pub mod Demand
 pub mod Excess
 pub mod Round
 pub mod Assignment
+pub mod Completion
 pub mod Equilibrium
 pub mod Closing
 pub mod Refusal
