@@ -1,35 +1,42 @@
--- The next bidder's option: an item works if the bidder demands it, nobody before has it, and the bidders after complete it. Assumes nothing.
-use Prim.Native.Nat.{ℕ, zero, suc, _+_, _-_, _≤_, _<_}
-use mathlib.Core.Path.{_≡_, refl, sym, ap, _∙_}
-use mathlib.Core.Bool.{Bool, true, false, _&&_, _||_, not}
+-- The next bidder's option: one that is completed is demanded and open, and the lowest such is the option. THEORY.md 3.2. Assumes nothing.
+use Prim.Native.Nat.{ℕ, zero, suc, _-_, _≤_, _<_}
+use mathlib.Core.Path.{_≡_, refl, sym, ap, _∙_, subst}
+use mathlib.Core.Bool.{Bool, true}
 use mathlib.Core.List.{List, [], _∷_, _++_}
-use mathlib.Core.Logic.{inl, inr}
+use mathlib.Core.Logic.{_⊎_, inl, inr}
 use native.Mathlib.Omega.{arith}
 use native.Mathlib.Nat.{not-suc-le-zero}
-use lib.Dec.{eqb}
 use lib.ListN.{length, getD}
-use Rattle.sets.specs.Bit.{has, setOf, lowest}
+use Rattle.sets.specs.Bit.{isSet, has, lowest}
 use Rattle.sets.proofs.Counting.{not-both, is-false}
-use Rattle.sets.proofs.Lowest.{item, is-null, lowest-unique}
+use Rattle.sets.proofs.Lowest.{Lowest, item, is-null, lowest-is, lowest-le, lowest-unique}
 use Rattle.rule.specs.Demand.{wants, nth}
 use Rattle.rule.specs.Assignment.{option, fits}
+use Rattle.rule.specs.Completion.{Rest}
 use Rattle.rule.proofs.Order.{Listed}
-use Rattle.rule.proofs.Completion.{some-use}
+use Rattle.rule.proofs.Completion as R
+use Rattle.rule.proofs.Completion.{option-low, option-at, snoc-length, Snoc, snoc-split}
 use Rattle.rule.proofs.Fitting.{Fits, fits-use}
 use Rattle.round.specs.Reports.{reports}
 use Rattle.round.proofs.Reporting.{reports-length}
-use Rattle.assignment.specs.Choice.{completed, waitingAfter, takenBy, Begun}
-use Rattle.assignment.proofs.Waiting.{waiting-next, taken-use, taken-make, taken-next, option-low, option-at, snoc-length, Snoc, snoc-split}
-use Rattle.assignment.proofs.Completing.{wants-item}
+use Rattle.assignment.specs.Choice.{completed, nextOption, Begins}
+use Rattle.assignment.specs.Search.{Open}
+use Rattle.assignment.specs.Turn.{FirstOf, Turn}
+use Rattle.assignment.proofs.Places.{both-use, both-make}
+use Rattle.assignment.proofs.Walking.{demands-are}
 
 module _ (n : ℕ) (sets : List ℕ) (nulls above : ℕ) where
+  -- at first nobody has an option
+  pub begins-none : Begins n sets nulls above []
+  begins-none = record { small = λ b l. absurd (not-suc-le-zero l); wanted = λ b l. absurd (not-suc-le-zero l); once = λ b c l. absurd (not-suc-le-zero l) }
+
   -- what can be completed is begun
-  pub begun-of : (ys : List ℕ) → n ≤ 64 → length ys ≤ n → completed n sets nulls above ys ≡ true → Begun n sets nulls ys (waitingAfter (length ys) n) (takenBy ys)
+  pub begins-of : (ys : List ℕ) → length ys ≤ n → completed n sets nulls above ys ≡ true → Begins n sets nulls above ys
   unfolding completed
-  begun-of ys ln l e = record { most = ln; short = l; small = small; wanted = wanted; once = once; waits = refl; takes = refl }
+  begins-of ys l e = record { small = small; wanted = wanted; once = once }
     where
       w : (xs : List ℕ) × Listed 32 (n - length ys) xs × (fits 32 above (reports n sets nulls) (ys ++ xs) ≡ true)
-      w = some-use 32 (n - length ys) (λ xs. fits 32 above (reports n sets nulls) (ys ++ xs)) e
+      w = R.some-use 32 (n - length ys) (λ xs. fits 32 above (reports n sets nulls) (ys ++ xs)) e
 
       f : Fits 32 (length (reports n sets nulls)) (λ b. wants (nth (reports n sets nulls) b)) (has above) (ys ++ w .0)
       f = fits-use 32 above (reports n sets nulls) (ys ++ w .0) (w .2)
@@ -49,71 +56,111 @@ module _ (n : ℕ) (sets : List ℕ) (nulls above : ℕ) where
       once : (b c : ℕ) → b < length ys → c < length ys → 0 < option ys b → option ys b ≡ option ys c → b ≡ c
       once b c lb lc pos q = f .assigns .once b c (inner b lb) (inner c lc) (omega (arith, pos, low b lb)) (low b lb ∙ q ∙ sym (low c lc))
 
-  -- the next bidder is at place b, after ys
-  module _ (ys : List ℕ) (b waiting taken : ℕ) (t : Begun n sets nulls ys waiting taken) (e : length ys ≡ b) (lb : b < n) where
-    -- an option that is completed is demanded, and nobody before has it
-    done : (i : ℕ) → completed n sets nulls above (ys ++ (i ∷ [])) ≡ true → Begun n sets nulls (ys ++ (i ∷ [])) (waitingAfter (length (ys ++ (i ∷ []))) n) (takenBy (ys ++ (i ∷ [])))
-    done i c = begun-of (ys ++ (i ∷ [])) (t .most) (omega (arith, snoc-length ys i, e, lb)) c
+  -- a completion, and the definition's test for one
+  completes-use : (ys : List ℕ) → length ys ≤ n → completed n sets nulls above ys ≡ true → (to : ℕ → ℕ) × Rest 32 n (λ b. wants (nth (reports n sets nulls) b)) (has above) ys to
+  unfolding completed
+  completes-use ys l e =
+      subst (λ (c : ℕ). (to : ℕ → ℕ) × Rest 32 c (λ b. wants (nth (reports n sets nulls) b)) (has above) ys to) (reports-length n sets nulls)
+      (R.completes-use 32 above (reports n sets nulls) ys (n - length ys) (omega (arith, l, reports-length n sets nulls)) e)
 
-    at-b : (i : ℕ) → option (ys ++ (i ∷ [])) b ≡ i
-    at-b i = ap (option (ys ++ (i ∷ []))) (sym e) ∙ option-at ys [] i
+  pub completes-make : (ys : List ℕ) → length ys ≤ n → Begins n sets nulls above ys
+      → (to : ℕ → ℕ) → Rest 32 n (λ b. wants (nth (reports n sets nulls) b)) (has above) ys to → completed n sets nulls above ys ≡ true
+  unfolding completed
+  completes-make ys l b to r =
+      R.completes-make 32 above (reports n sets nulls) ys (n - length ys) (omega (arith, l, reports-length n sets nulls)) to
+      (subst (λ (c : ℕ). R.Begun 32 c (λ b. wants (nth (reports n sets nulls) b)) (has above) ys) (sym (reports-length n sets nulls)) b)
+      (subst (λ (c : ℕ). Rest 32 c (λ b. wants (nth (reports n sets nulls) b)) (has above) ys to) (sym (reports-length n sets nulls)) r)
 
-    pub unwanted : (i : ℕ) → 0 < i → has (getD sets b 0) i ≡ false → false ≡ completed n sets nulls above (ys ++ (i ∷ []))
-    unwanted zero pos off = absurd (not-suc-le-zero pos)
-    unwanted (suc k) pos off =
-        sym (is-false (completed n sets nulls above (ys ++ (suc k ∷ []))) (λ c.
-        not-both (has (getD sets b 0) (suc k))
-        (sym (wants-item n sets nulls b k lb) ∙ ap (wants (nth (reports n sets nulls) b)) (sym (at-b (suc k))) ∙ done (suc k) c .wanted b (omega (arith, snoc-length ys (suc k), e))) off))
+module _ {w who x : List ℕ} {above opens later k n : ℕ} (t : Turn w who x above opens later k n) where
+  abbrev D : ℕ → ℕ → Bool
+  D b = wants (nth (reports n (t .sets) (t .nulls)) b)
 
-    pub had : (i : ℕ) → 0 < i → i ≤ 32 → has taken i ≡ true → false ≡ completed n sets nulls above (ys ++ (i ∷ []))
-    had zero pos le on = absurd (not-suc-le-zero pos)
-    had (suc k) pos le on =
-        sym (is-false (completed n sets nulls above (ys ++ (suc k ∷ []))) (λ c.
-        let w = taken-use ys k le (ap (λ (s : ℕ). has s (suc k)) (sym (t .takes)) ∙ on) in
-        let low = option-low ys (suc k ∷ []) (w .0) (w .1) ∙ w .2 in
-        let same = done (suc k) c .once (w .0) b (omega (arith, w .1, snoc-length ys (suc k))) (omega (arith, snoc-length ys (suc k), e)) (omega (arith, low)) (low ∙ sym (at-b (suc k))) in
-        omega (arith, same, w .1, e)))
+  abbrev pub Completed : ℕ → Bool
+  Completed i = completed n (t .sets) (t .nulls) above (t .ys ++ (i ∷ []))
 
-    -- with an item that is demanded and that nobody before has, the bidders so far are begun
-    pub more : (i : ℕ) → 0 < i → i ≤ 32 → has (getD sets b 0) i ≡ true → has taken i ≡ false → (later next : ℕ) → later ≡ setOf 64 (λ k. has waiting k && not (eqb k (b + 1)))
-        → next ≡ setOf 32 (λ k. has taken k || eqb k i) → Begun n sets nulls (ys ++ (i ∷ [])) later next
-    more zero pos le on off later next el en = absurd (not-suc-le-zero pos)
-    more (suc k) pos le on off later next el en =
+  short : (i : ℕ) → length (t .ys ++ (i ∷ [])) ≤ n
+  short i = omega (arith, snoc-length (t .ys) i, t .count, t .more)
+
+  -- an option that is completed is demanded and open
+  done : (i : ℕ) → Completed i ≡ true → Begins n (t .sets) (t .nulls) above (t .ys ++ (i ∷ []))
+  done i c = begins-of n (t .sets) (t .nulls) above (t .ys ++ (i ∷ [])) (short i) c
+
+  last : (i : ℕ) → option (t .ys ++ (i ∷ [])) k ≡ i
+  last i = ap (option (t .ys ++ (i ∷ []))) (sym (t .count)) ∙ option-at (t .ys) [] i
+
+  pub completed-wanted : (i : ℕ) → Completed i ≡ true → isSet (getD w k 0) i ≡ true
+  completed-wanted i c =
+      sym (demands-are t k i (t .more)) ∙ ap (D k) (sym (last i)) ∙ done i c .wanted k (omega (arith, snoc-length (t .ys) i, t .count))
+
+  pub completed-open : (i : ℕ) → Completed i ≡ true → Open (t .ys) i
+  completed-open i c b lb pos e =
+      let low = option-low (t .ys) (i ∷ []) b lb ∙ e in
+      let same = done i c .once b k (omega (arith, lb, snoc-length (t .ys) i)) (omega (arith, snoc-length (t .ys) i, t .count)) (omega (arith, low, pos)) (low ∙ sym (last i)) in
+      omega (arith, same, lb, t .count)
+
+  pub completed-rest : (i : ℕ) → Completed i ≡ true → (to : ℕ → ℕ) × Rest 32 n D (has above) (t .ys ++ (i ∷ [])) to
+  completed-rest i c = completes-use n (t .sets) (t .nulls) above (t .ys ++ (i ∷ [])) (short i) c
+
+  -- with a completion, such an option is completed
+  module _ (i : ℕ) (li : i < 33) (on : isSet (getD w k 0) i ≡ true) (free : Open (t .ys) i) where
+    begins-more : Begins n (t .sets) (t .nulls) above (t .ys ++ (i ∷ []))
+    begins-more =
         record {
-          most = t .most;
-          short = omega (arith, snoc-length ys (suc k), e, lb);
-          small = λ a l. small a (snoc-split ys (suc k) a l);
-          wanted = λ a l. wanted a (snoc-split ys (suc k) a l);
-          once = λ a c l o pos q. once a c pos q (snoc-split ys (suc k) a l) (snoc-split ys (suc k) c o);
-          waits = el ∙ ap (λ (s : ℕ). setOf 64 (λ k. has s k && not (eqb k (b + 1)))) (t .waits ∙ ap (λ (c : ℕ). waitingAfter c n) e) ∙ waiting-next b n
-              ∙ ap (λ (c : ℕ). waitingAfter c n) (ap suc (sym e) ∙ sym (snoc-length ys (suc k)));
-          takes = en ∙ ap (λ (s : ℕ). setOf 32 (λ j. has s j || eqb j (suc k))) (t .takes) ∙ taken-next ys (suc k);
+          small = λ b l. small b (snoc-split (t .ys) i b l);
+          wanted = λ b l. wanted b (snoc-split (t .ys) i b l);
+          once = λ b c l o pos q. once b c pos q (snoc-split (t .ys) i b l) (snoc-split (t .ys) i c o);
         }
       where
-        small : (a : ℕ) → Snoc ys (suc k) a → option (ys ++ (suc k ∷ [])) a < 33
-        small a (inl v) = omega (arith, v .1, t .small a (v .0))
-        small a (inr v) = omega (arith, v .1, le)
+        small : (b : ℕ) → Snoc (t .ys) i b → option (t .ys ++ (i ∷ [])) b < 33
+        small b (inl v) = omega (arith, v .1, t .begun .small b (v .0))
+        small b (inr v) = omega (arith, v .1, li)
 
-        wanted : (a : ℕ) → Snoc ys (suc k) a → wants (nth (reports n sets nulls) a) (option (ys ++ (suc k ∷ [])) a) ≡ true
-        wanted a (inl v) = ap (wants (nth (reports n sets nulls) a)) (v .1) ∙ t .wanted a (v .0)
-        wanted a (inr v) =
-            ap (wants (nth (reports n sets nulls) a)) (v .1) ∙ ap (λ (c : ℕ). wants (nth (reports n sets nulls) c) (suc k)) (v .0 ∙ e) ∙ wants-item n sets nulls b k lb ∙ on
+        wanted : (b : ℕ) → Snoc (t .ys) i b → D b (option (t .ys ++ (i ∷ [])) b) ≡ true
+        wanted b (inl v) = ap (D b) (v .1) ∙ t .begun .wanted b (v .0)
+        wanted b (inr v) = ap (D b) (v .1) ∙ ap (λ (c : ℕ). D c i) (v .0 ∙ t .count) ∙ demands-are t k i (t .more) ∙ on
 
-        -- nobody before has item k + 1
-        new : (a : ℕ) → a < length ys → option ys a ≡ suc k → ⊥
-        new a l q = not-both (has taken (suc k)) (ap (λ (s : ℕ). has s (suc k)) (t .takes) ∙ taken-make ys k le a l q) off
+        once : (b c : ℕ) → 0 < option (t .ys ++ (i ∷ [])) b → option (t .ys ++ (i ∷ [])) b ≡ option (t .ys ++ (i ∷ [])) c → Snoc (t .ys) i b → Snoc (t .ys) i c → b ≡ c
+        once b c pos q (inl u) (inl v) = t .begun .once b c (u .0) (v .0) (omega (arith, pos, u .1)) (sym (u .1) ∙ q ∙ v .1)
+        once b c pos q (inl u) (inr v) = absurd (free b (u .0) (omega (arith, pos, q, v .1)) (sym (u .1) ∙ q ∙ v .1))
+        once b c pos q (inr u) (inl v) = absurd (free c (v .0) (omega (arith, pos, u .1)) (sym (v .1) ∙ sym q ∙ u .1))
+        once b c pos q (inr u) (inr v) = u .0 ∙ sym (v .0)
 
-        once : (a c : ℕ) → 0 < option (ys ++ (suc k ∷ [])) a → option (ys ++ (suc k ∷ [])) a ≡ option (ys ++ (suc k ∷ [])) c → Snoc ys (suc k) a → Snoc ys (suc k) c → a ≡ c
-        once a c pos q (inl u) (inl v) = t .once a c (u .0) (v .0) (omega (arith, pos, u .1)) (sym (u .1) ∙ q ∙ v .1)
-        once a c pos q (inl u) (inr v) = absurd (new a (u .0) (sym (u .1) ∙ q ∙ v .1))
-        once a c pos q (inr u) (inl v) = absurd (new c (v .0) (sym (v .1) ∙ sym q ∙ u .1))
-        once a c pos q (inr u) (inr v) = u .0 ∙ sym (v .0)
+    pub completed-make : (to : ℕ → ℕ) → Rest 32 n D (has above) (t .ys ++ (i ∷ [])) to → Completed i ≡ true
+    completed-make to r = completes-make n (t .sets) (t .nulls) above (t .ys ++ (i ∷ [])) (short i) begins-more to r
 
--- ---- a search from item 1 on finds the lowest
+  -- the option is the lowest that is completed
+  pub option-is : (i : ℕ) → i < 33 → Completed i ≡ true → ((j : ℕ) → 0 < j → j < 33 → (i ≡ 0) ⊎ (j < i) → Completed j ≡ true → ⊥) → i ≡ nextOption n (t .sets) (t .nulls) above (t .ys)
+  unfolding nextOption
+  option-is zero li on low = lowest-unique 32 Completed 0 (is-null (λ j l. is-false (Completed (suc j)) (low (suc j) (omega arith) (omega arith) (inl refl))))
+  option-is (suc i) li on low =
+      lowest-unique 32 Completed (suc i) (item i (omega arith) on (λ j l. is-false (Completed (suc j)) (low (suc j) (omega arith) (omega arith) (inr (omega arith)))))
 
-pub first-found : (g : ℕ → Bool) (i : ℕ) → 0 < i → i ≤ 32 → g i ≡ true → ((j : ℕ) → j < i → 0 < j → g j ≡ false) → i ≡ lowest 32 g
-first-found g zero pos le on low = absurd (not-suc-le-zero pos)
-first-found g (suc k) pos le on low = lowest-unique 32 g (suc k) (item k le on (λ j l. low (suc j) (omega arith) (omega arith)))
+-- ---- the lowest item of a set of places that has place a, and null if it has none
 
-pub none-found : (g : ℕ → Bool) → ((j : ℕ) → j < 33 → 0 < j → g j ≡ false) → 0 ≡ lowest 32 g
-none-found g off = lowest-unique 32 g 0 (is-null (λ j l. off (suc j) (omega arith) (omega arith)))
+lowest-in : (s a r : ℕ) → a < 64 → isSet s a ≡ true → r ≡ lowest 63 (isSet s) → isSet s r ≡ true
+lowest-in s a r la o e = ap (isSet s) e ∙ go (lowest 63 (isSet s)) (lowest-is 63 (isSet s)) a la o
+  where
+    go : (m : ℕ) → Lowest 63 (isSet s) m → (a : ℕ) → a < 64 → isSet s a ≡ true → isSet s m ≡ true
+    go m (item k l h b) a la o = h
+    go m (is-null none) zero la o = o
+    go m (is-null none) (suc a) la o = absurd (not-both (isSet s (suc a)) o (none a (omega arith)))
+
+lowest-none : (s r : ℕ) → r ≡ lowest 63 (isSet s) → (j : ℕ) → 0 < j → j < 33 → (r ≡ 0) ⊎ (j < r) → isSet s j ≡ true → ⊥
+lowest-none s r e zero pos l low o = absurd (let no : ⊥ = omega arith in no)
+lowest-none s r e (suc j) pos l low o = go (lowest 63 (isSet s)) (lowest-is 63 (isSet s)) e low
+  where
+    go : (m : ℕ) → Lowest 63 (isSet s) m → r ≡ m → (r ≡ 0) ⊎ (suc j < r) → ⊥
+    go m (is-null none) q low = not-both (isSet s (suc j)) o (none j (omega arith))
+    go m (item k lk h b) q (inl z) = omega arith
+    go m (item k lk h b) q (inr lt) = not-both (isSet s (suc j)) o (b j (omega arith))
+
+-- the same for what s and t have both
+module _ {s t i : ℕ} (f : FirstOf s t i) where
+  pub first-in : (a : ℕ) → a < 64 → isSet s a ≡ true → isSet t a ≡ true → (isSet s i ≡ true) × (isSet t i ≡ true)
+  first-in a la o d = both-use s t (f .both) (f .both-is) i (lowest-in (f .both) a i la (both-make s t (f .both) (f .both-is) a la o d) (f .lowest-is))
+
+  pub first-none : (j : ℕ) → 0 < j → j < 33 → (i ≡ 0) ⊎ (j < i) → isSet s j ≡ true → isSet t j ≡ true → ⊥
+  first-none j pos l low o d = lowest-none (f .both) i (f .lowest-is) j pos l low (both-make s t (f .both) (f .both-is) j (omega arith) o d)
+
+  pub first-small : i < 64
+  first-small = let l = lowest-le (lowest-is 63 (isSet (f .both))) in omega (arith, f .lowest-is)

@@ -1,6 +1,14 @@
-pub mod Waiting
-pub mod Completing
+pub mod Places
+pub mod Opening
+pub mod Demanding
+pub mod Reaching
+pub mod Growing
+pub mod Sweeping
+pub mod Searching
+pub mod Walking
 pub mod Choosing
+pub mod Turning
+pub mod Completing
 pub mod Assigning
 pub mod Unfit
 pub mod Narrowing

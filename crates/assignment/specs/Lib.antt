@@ -1,2 +1,4 @@
 pub mod Assigned
 pub mod Choice
+pub mod Search
+pub mod Turn

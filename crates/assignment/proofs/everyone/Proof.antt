@@ -1,11 +1,10 @@
 -- `assignment::everyone` meets its contract. Each turn adds one bidder. Assumes nothing.
 use Prim.Native.Nat.{_-_, _≤_}
-use mathlib.Core.Path.{_≡_, refl, _∙_}
+use mathlib.Core.Path.{_≡_, refl}
 use mathlib.Core.Bool.{true}
 use native.Mathlib.Omega.{arith}
 use Rattle.sets.specs.Bit.{setOf}
 use Rattle.round.proofs.Adding.{add-next, add-end}
-use Rattle.assignment.proofs.Waiting.{waiting-all}
 use borrow.Author.Needs.{needs}
 use Rattle.assignment.proofs.everyone.Statement.{statement}
 use Rattle.assignment.proofs.everyone.Tie as tie
@@ -44,7 +43,7 @@ returns : tie.Need-returns Inv-loop μ-loop
 returns c =
     let a = c .before .before .args in
     let at = c .before .loop in
-    add-end (λ j. true) (at .b) (a .n) (at .s) (at .inv .1) (at .inv .0) (c .loop-test .left) ∙ waiting-all (a .n) (c .before .before .pre)
+    add-end (λ j. true) (at .b) (a .n) (at .s) (at .inv .1) (at .inv .0) (c .loop-test .left)
 
 pub everyone-spec : {M : Type 1} → statement M
 everyone-spec =

@@ -1,74 +1,60 @@
--- `assignment::option` meets its contract. No item passed so far works, so the first that does is the lowest. Assumes nothing.
-use Prim.Native.Nat.{ℕ, _-_, _≤_, _<_}
-use mathlib.Core.Path.{_≡_, sym, _∙_}
-use mathlib.Core.Bool.{false}
-use mathlib.Core.List.{List, [], _∷_, _++_}
+-- `assignment::option` meets its contract. Assumes nothing.
 use native.Mathlib.Omega.{arith}
-use lib.ListN.{length}
-use borrow.Author.Count.{below-more}
-use Rattle.assignment.specs.Choice.{completed, nextOption, Begun}
-use Rattle.assignment.proofs.Choosing.{first-found, none-found}
 use borrow.Author.Needs.{needs}
+use lib.ListN.{getD}
+use Rattle.assignment.specs.Turn.{FirstOf}
+use Rattle.assignment.proofs.Turning.{x-small, kept}
 use Rattle.assignment.proofs.option.Statement.{statement}
 use Rattle.assignment.proofs.option.Tie as tie
 
-abbrev Inv-loop : tie.InvT-loop
-Inv-loop sets nulls above waiting taken b i₀ i =
-    (0 < i) × (i ≤ 33) × ((j : ℕ) → j < i → 0 < j → (n : ℕ) (ys : List ℕ) → Begun n sets nulls ys waiting taken → length ys ≡ b → b < n → completed n sets nulls above (ys ++ (j ∷ [])) ≡ false)
+element-copy-out-a : tie.Need-element-copy-out-a
+element-copy-out-a c = search needs
 
-abbrev μ-loop : tie.MeasureT-loop
-μ-loop sets nulls above waiting taken b i₀ i = 33 - i
+cast-a : tie.Need-cast-a
+cast-a c =
+    let t = c .before .pre in
+    let small = x-small t (c .before .args .k) (omega arith) (t .more) in
+    search needs
 
-loop-holds : tie.Need-loop-holds Inv-loop μ-loop
-loop-holds c = (omega arith, omega arith, λ j l pos. absurd (let no : ⊥ = omega arith in no))
+mul-common-bidders : tie.Need-mul-common-bidders
+mul-common-bidders c = search needs
 
-works-requires : tie.Need-works-requires Inv-loop μ-loop
-works-requires c κs = search needs
+element-copy-out-common-bidders : tie.Need-element-copy-out-common-bidders
+element-copy-out-common-bidders c = search needs
 
-cast-result : tie.Need-cast-result Inv-loop μ-loop
-cast-result c = search needs
+common-bidders-requires : tie.Need-common-bidders-requires
+common-bidders-requires c κs = search needs
 
-returns : tie.Need-returns Inv-loop μ-loop
-unfolding nextOption
+first-item-requires : tie.Need-first-item-requires
+first-item-requires c κs = search needs
+
+-- the lowest open item that bidder k demands
+wish : (c : tie.After-first-item) → FirstOf (c .before .before .before .before .args .opens) (getD (c .before .before .before .before .args .w .now) (c .before .before .before .before .args .k) 0) (c .first-item .result)
+wish c =
+    let m = c .before .common-bidders in
+    record { both = m .result; both-is = m .ensures; lowest-is = c .first-item .ensures }
+
+returns : tie.Need-returns
 returns c =
-    let a = c .before .before .before .before .args in
-    let at = c .before .before .before .loop in
-    let lt = c .before .before .loop-test .taken in (
-      omega arith,
-      λ n ys t e lb. first-found (λ i. completed n (a .sets .now) (a .nulls) (a .above) (ys ++ (i ∷ []))) (at .i) (at .inv .0) lt (sym (c .before .works .ensures n ys t e lb) ∙ c .if1 .taken)
-          (λ j l pos. at .inv .2 j l pos n ys t e lb),
-    )
+    let t = c .before .before .before .before .before .pre in
+    (omega (arith, x-small t (c .before .before .before .before .before .args .k) (omega arith) (t .more)), t .size, λ u. kept u (wish (c .before)) (c .if1 .taken))
 
-add-i : tie.Need-add-i Inv-loop μ-loop
-add-i c = search needs
+better-requires : tie.Need-better-requires
+better-requires c κs = (c .before .before .before .before .before .before .pre, wish (c .before .before))
 
-loop-less : tie.Need-loop-less Inv-loop μ-loop
-loop-less c = search needs
-
-loop-again : tie.Need-loop-again Inv-loop μ-loop
-loop-again c =
-    let at = c .before .before .before .loop in
-    let lt = c .before .before .loop-test .taken in
-    (omega arith, omega arith, below-more _ _ (at .inv .2) (λ pos n ys t e lb. sym (c .before .works .ensures n ys t e lb) ∙ c .if1 .left))
-
-returns-2 : tie.Need-returns-2 Inv-loop μ-loop
-unfolding nextOption
-returns-2 c =
-    let a = c .before .before .args in
-    let at = c .before .loop in
-    (omega arith, λ n ys t e lb. none-found (λ i. completed n (a .sets .now) (a .nulls) (a .above) (ys ++ (i ∷ []))) (λ j l pos. at .inv .2 j (omega (arith, l, c .loop-test .left)) pos n ys t e lb))
+returns-2 : tie.Need-returns-2
+returns-2 c = search needs
 
 pub option-spec : {M : Type 1} → statement M
 option-spec =
     tie.close
     (tie.spec
-    Inv-loop
-    μ-loop
-    loop-holds
-    works-requires
-    cast-result
+    element-copy-out-a
+    cast-a
+    mul-common-bidders
+    element-copy-out-common-bidders
+    common-bidders-requires
+    first-item-requires
     returns
-    add-i
-    loop-less
-    loop-again
+    better-requires
     returns-2)
