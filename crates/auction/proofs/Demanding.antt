@@ -1,7 +1,7 @@
 -- The demands of all bidders at prices, as the code collects them, one bidder after the other. Assumes nothing.
-use Prim.Native.Nat.{ℕ, zero, suc, _+_, _-_, _*_, _^_, _≤_, _<_}
+use Prim.Native.Nat.{ℕ, zero, suc, _+_, _-_, _^_, _≤_, _<_}
 use mathlib.Core.Path.{_≡_, refl, sym, ap, ap₂, _∙_, subst}
-use mathlib.Core.Bool.{Bool, true, _&&_, _||_}
+use mathlib.Core.Bool.{Bool, _&&_, _||_}
 use mathlib.Core.List.{List, _∷_}
 use native.Mathlib.Omega.{arith}
 use lib.ListN.{length, getD, set, replicate}
@@ -9,23 +9,20 @@ use lib.Dec.{eqb, ltb}
 use Rattle.sets.specs.Bit.{has, setOf}
 use Rattle.sets.specs.Lists.{tabulate}
 use Rattle.sets.proofs.Members.{setOf-lt, isSet-setOf}
-use Rattle.rule.specs.Sheet.{amount, withinLimits}
+use Rattle.rule.specs.Sheet.{amount}
 use Rattle.rule.specs.Excess.{positive}
 use Rattle.rule.specs.Demand.{Demand, best, demand, demands}
 use Rattle.round.specs.Reports.{reports}
 use Rattle.sets.proofs.Filling.{Filled, fill-start, fill-next}
 use Rattle.round.proofs.Adding.{add-next}
 use Rattle.round.proofs.Reporting.{map-tabulate}
-use Rattle.bids.specs.Lent.{lineOf, rowsOf, sheetOf}
+use Rattle.bids.specs.Lent.{lineOf, rowsOf}
+use Rattle.bids.specs.Line.{lineShown}
+use Rattle.bids.specs.Fit.{Small, Fit}
 use Rattle.bids.proofs.Lent.{line-inside, line-length}
-use Rattle.bids.proofs.Limits.{fine, within-accepted}
-use Rattle.auction.specs.Steps.{Counted, Demanded}
-
--- the bids of a sheet within the limits
-pub counted : (m n : ℕ) (start bids : List ℕ) → length bids ≡ n * m → withinLimits (sheetOf m n start bids) ≡ true → Counted m n bids
-counted m n start bids e w =
-    let f = fine m n start bids (within-accepted m n start bids e w) in
-    record { max-items = f .max-items; max-bidders = f .max-bidders; long = e }
+use Rattle.bids.proofs.Showing.{shown-at}
+use Rattle.bids.proofs.Fitting as B
+use Rattle.auction.specs.Steps.{Demanded}
 
 -- two lists by places are one where they agree
 tabulate-cong : {A : Type 0} (n : ℕ) (f g : ℕ → A) (i : ℕ) → ((k : ℕ) → i ≤ k → k < i + n → f k ≡ g k) → tabulate n f i ≡ tabulate n g i
@@ -45,29 +42,35 @@ module _ (m n : ℕ) (prices bids : List ℕ) where
   unfolding setOf
   collect-start = record { most = omega arith; filled = fill-start 64 _; null = refl }
 
-  module _ (c : Counted m n bids) (b : ℕ) (l : b < n) (line : List ℕ) (e : line ≡ lineOf m bids b) where
+  module _ (f : Fit m n bids) (b : ℕ) (l : b < n) (line : List ℕ) (e : line ≡ lineShown m n (b + 1) bids) where
+    line-here : line ≡ lineOf m bids b
+    line-here = e ∙ shown-at m n b bids (f .some-item) (f .max-items) (f .max-bidders) (f .long) l
+
     line-long : length line ≡ m
-    line-long = ap length e ∙ line-length m bids b (line-inside m n b (length bids) (c .long) l)
+    line-long = ap length line-here ∙ line-length m bids b (line-inside m n b (length bids) (f .long) l)
 
     pub line-short : length line ≤ 32
-    line-short = omega (arith, line-long, c .max-items)
+    line-short = omega (arith, line-long, f .max-items)
+
+    pub line-small : Small line
+    line-small = subst Small (sym line-here) (B.line-small m bids (f .small) b)
 
     demand-is : demand (length line) prices line ≡ demand m prices (lineOf m bids b)
-    demand-is = ap₂ (λ (k : ℕ) (x : List ℕ). demand k prices x) line-long e
+    demand-is = ap₂ (λ (k : ℕ) (x : List ℕ). demand k prices x) line-long line-here
 
     pub collect-next : (sets : List ℕ) (nulls : ℕ) → Collected sets nulls b → (items : ℕ) → items ≡ demand (length line) prices line .items
         → (on : Bool) → on ≡ demand (length line) prices line .null → (next : ℕ) → next ≡ setOf 64 (λ k. has nulls k || (on && eqb k (b + 1))) → Collected (set sets b items) next (b + 1)
     collect-next sets nulls t items ei on eo next en =
         record {
           most = omega arith;
-          filled = fill-next 64 _ b sets items (t .filled) (omega (arith, l, c .max-bidders)) (ei ∙ ap (λ (d : Demand). d .items) demand-is);
-          null = add-next 64 (λ j. demand m prices (lineOf m bids (j - 1)) .null) b (omega (arith, l, c .max-bidders)) nulls on next (t .null) (eo ∙ ap (λ (d : Demand). d .null) demand-is ∙ own) en;
+          filled = fill-next 64 _ b sets items (t .filled) (omega (arith, l, f .max-bidders)) (ei ∙ ap (λ (d : Demand). d .items) demand-is);
+          null = add-next 64 (λ j. demand m prices (lineOf m bids (j - 1)) .null) b (omega (arith, l, f .max-bidders)) nulls on next (t .null) (eo ∙ ap (λ (d : Demand). d .null) demand-is ∙ own) en;
         }
       where
         own : demand m prices (lineOf m bids b) .null ≡ demand m prices (lineOf m bids (b + 1 - 1)) .null
         own = let e : b ≡ b + 1 - 1 = omega arith in ap (λ (k : ℕ). demand m prices (lineOf m bids k) .null) e
 
-  pub collect-end : Counted m n bids → (sets : List ℕ) (nulls b : ℕ) → Collected sets nulls b → n ≤ b → Demanded m n prices bids sets nulls
+  pub collect-end : Fit m n bids → (sets : List ℕ) (nulls b : ℕ) → Collected sets nulls b → n ≤ b → Demanded m n prices bids sets nulls
   collect-end c sets nulls b t l =
       record {
         reported = record { max-items = c .max-items; max-bidders = c .max-bidders; small = small; idle = λ k lk. t .filled .zeros k (omega (arith, lk, t .most)) };

@@ -1,4 +1,6 @@
 pub mod Surplus
 pub mod Demanding
-pub mod Walking
+pub mod LeastPrices
+pub mod Greatest
+pub mod Settling
 pub mod Sealing

@@ -3,7 +3,6 @@ use Prim.Native.Nat.{ℕ, zero, suc, _^_, _<_}
 use mathlib.Core.Path.{_≡_, refl, sym, ap, ap₂, _∙_, subst}
 use mathlib.Core.Bool.{true}
 use mathlib.Core.List.{List}
-use lib.ListN.{length}
 use Rattle.sets.specs.Lists.{places}
 use Rattle.rule.specs.Sheet.{Sheet, withinLimits}
 use Rattle.rule.specs.Demand.{demands}
@@ -23,7 +22,7 @@ use Rattle.bids.proofs.Limits.{accepted-within}
 use Rattle.auction.specs.Sealed.{refused, closed, outcome, sealedOf, Promised}
 use Rattle.auction.specs.declared.Closing.{Closing}
 use Rattle.auction.proofs.Demanding.{positive-lt}
-use Rattle.auction.proofs.Walking.{Ready, ready, path-long}
+use Rattle.auction.proofs.Settling.{Ready, ready, close-long}
 
 module _ (m n : ℕ) (start bids : List ℕ) where
   -- by the number
@@ -75,18 +74,14 @@ made : ℕ → ℕ → List ℕ → List ℕ → Closing
 made u k p names = record { refusal = 0; raised = u; lowered = k; prices = p; assignment = names }
 
 module _ (s : Sheet) (g : Ready s) where
-  pub close-long : length (close s .prices) ≡ s .items
-  unfolding close
-  close-long = path-long s (g .long) _
-
   -- the names at the closing prices
   module _ (n : ℕ) (p sets : List ℕ) (nulls above : ℕ) (ep : p ≡ places 32 (close s .prices)) (ea : above ≡ positive (s .items) p)
       (rep : Reported (s .items) n sets) (same : reports n sets nulls ≡ demands (s .items) (s .bids) p) where
     above-is : above ≡ positive (s .items) (close s .prices)
-    above-is = ea ∙ ap (positive (s .items)) ep ∙ positive-places (s .items) (g .max-items) (close s .prices) close-long (s .items)
+    above-is = ea ∙ ap (positive (s .items)) ep ∙ positive-places (s .items) (g .limits .max-items) (close s .prices) (close-long s g) (s .items)
 
     reports-are : reports n sets nulls ≡ demands (s .items) (s .bids) (close s .prices)
-    reports-are = same ∙ ap (demands (s .items) (s .bids)) ep ∙ demands-places (s .items) (g .max-items) (close s .prices) close-long (s .bids)
+    reports-are = same ∙ ap (demands (s .items) (s .bids)) ep ∙ demands-places (s .items) (g .limits .max-items) (close s .prices) (close-long s g) (s .bids)
 
     above-lt : above < 2 ^ (s .items)
     above-lt = subst (λ (x : ℕ). x < 2 ^ (s .items)) (sym ea) (positive-lt (s .items) p)

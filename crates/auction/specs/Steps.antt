@@ -1,24 +1,18 @@
 -- What the steps of the sealed auction ask and answer. Assumes nothing: these are definitions.
-use Prim.Native.Nat.{ℕ, _+_, _*_, _≤_, _<_}
+use Prim.Native.Nat.{ℕ, _+_, _≤_, _<_}
 use mathlib.Core.Path.{_≡_}
 use mathlib.Core.List.{List}
 use mathlib.Core.Logic.{_⊎_}
-use lib.ListN.{length, getD}
+use lib.ListN.{getD}
 use Rattle.rule.specs.Demand.{demands}
 use Rattle.round.specs.Reports.{reports, Reported}
 use Rattle.bids.specs.Lent.{rowsOf}
 
--- x is the highest of the surpluses of null and of the first n items, and 65,535, so that it is never below 0
+-- x is 4,095 more than the highest of the surpluses of null and of the first n items: no price is above 4,095, so nothing counts below 0
 pub record Highest (n : ℕ) (prices bids : List ℕ) (x : ℕ) : Type 0 where
-  pub null : 65535 ≤ x
-  pub most : (k : ℕ) → k < n → getD bids k 0 + 65535 ≤ x + getD prices k 0
-  pub some : (x ≡ 65535) ⊎ ((k : ℕ) × (k < n) × (getD bids k 0 + 65535 ≡ x + getD prices k 0))
-
--- what the steps ask of the lent bids: counts in order, and a bid for each bidder and item
-pub record Counted (m n : ℕ) (bids : List ℕ) : Type 0 where
-  pub max-items : m ≤ 32
-  pub max-bidders : n ≤ 64
-  pub long : length bids ≡ n * m
+  pub null : 4095 ≤ x
+  pub most : (k : ℕ) → k < n → getD bids k 0 + 4095 ≤ x + getD prices k 0
+  pub some : (x ≡ 4095) ⊎ ((k : ℕ) × (k < n) × (getD bids k 0 + 4095 ≡ x + getD prices k 0))
 
 -- the sets and the nulls are the demands of n bidders at prices, for m items
 pub record Demanded (m n : ℕ) (prices bids sets : List ℕ) (nulls : ℕ) : Type 0 where

@@ -1,41 +1,37 @@
 // The sealed auction.
 ghost use mathlib.Core.Path.{_≡_};
-ghost use mathlib.Core.Bool.{true};
-ghost use Prim.Native.Nat.{_+_, _*_, _≤_, _<_, max};
+ghost use Prim.Native.Nat.{_+_, _-_, _≤_, _<_};
 ghost use lib.ListN.{length};
 ghost use Rattle.sets.specs.Lists.{places};
-ghost use Rattle.rule.specs.Sheet.{withinLimits};
-ghost use Rattle.rule.specs.Demand.{demand, demands};
-ghost use Rattle.rule.specs.Excess.{excessDemand, excessSupply, positive};
-ghost use Rattle.rule.specs.Round.{path, close};
-ghost use Rattle.bids.specs.Lent.{lineOf, rowsOf, sheetOf};
+ghost use Rattle.rule.specs.Sheet.{amount};
+ghost use Rattle.rule.specs.Demand.{demand};
+ghost use Rattle.rule.specs.Round.{close};
+ghost use Rattle.rule.specs.Equilibrium.{greatest};
+ghost use Rattle.bids.specs.Lent.{sheetOf};
+ghost use Rattle.bids.specs.Refusal.{sealedRefusal};
+ghost use Rattle.bids.specs.Fit.{Small, Fit};
 ghost use Rattle.auction.specs.Sealed.{sealedOf, Promised};
-ghost use Rattle.auction.specs.Steps.{Highest, Counted, Demanded};
+ghost use Rattle.auction.specs.Steps.{Highest, Demanded};
 
 // ---- what a bidder demands
 
-// The surplus, and 65,535, so that it is never below 0.
-fn worth(bid: u16, price: u16) -> u32
-    ensures { λ r. ⌜ r + price ≡ bid + 65535 ⌝ }
+// The surplus, and 4,095, so that it is never below 0. In 16 bits the compiler takes eight items at a time.
+fn worth(bid: u16, price: u16) -> u16
+    requires { ⌜ (bid ≤ 4095) × (price ≤ 4095) ⌝ }
+    ensures { λ r. ⌜ r + price ≡ bid + 4095 ⌝ }
 {
-    (bid as u32) + (65535 - (price as u32))
-}
-
-fn larger(a: u32, b: u32) -> u32
-    ensures { λ r. ⌜ r ≡ max a b ⌝ }
-{
-    if a < b { b } else { a }
+    bid + (4095 - price)
 }
 
 // The highest worth of the items of the line and of null.
-fn highest(prices: &[u16; 32], line: &[u16]) -> u32
-    requires { ⌜ length (now line) ≤ 32 ⌝ }
+fn highest(prices: &[u16; 32], line: &[u16]) -> u16
+    requires { ⌜ (length (now line) ≤ 32) × Small (now prices) × Small (now line) ⌝ }
     ensures { λ r. ⌜ Highest (length (now (line .entry))) (now (prices .entry)) (now (line .entry)) r ⌝ }
 {
-    let mut top: u32 = 65535;
+    let mut top: u16 = 4095;
     let mut i: usize = 0;
     while i < line.len() {
-        top = larger(top, worth(line[i], prices[i]));
+        top = prices::larger(top, worth(line[i], prices[i]));
         i += 1;
     }
     top
@@ -49,7 +45,7 @@ struct Demand {
 
 // The demand of the bidder whose bids are the line.
 fn demand_of(prices: &[u16; 32], line: &[u16]) -> Demand
-    requires { ⌜ length (now line) ≤ 32 ⌝ }
+    requires { ⌜ (length (now line) ≤ 32) × Small (now prices) × Small (now line) ⌝ }
     ensures { λ r. ⌜ (r .null ≡ demand (length (now (line .entry))) (now (prices .entry)) (now (line .entry)) .null)
         × (r .items ≡ demand (length (now (line .entry))) (now (prices .entry)) (now (line .entry)) .items) ⌝ }
 {
@@ -68,19 +64,9 @@ fn demand_of(prices: &[u16; 32], line: &[u16]) -> Demand
         i += 1;
     }
     Demand {
-        null: top == 65535,
+        null: top == 4095,
         items: items,
     }
-}
-
-// The bids of the bidder at place b. `bids::line` shows the same part, but tests its arguments at every bidder.
-fn row(bids: &[u16], items: usize, b: usize) -> &[u16]
-    requires { ⌜ (items ≤ 32) × (b < 64) × (b * items + items ≤ length (now bids)) ⌝ }
-    ensures { λ r. ⌜ now r ≡ lineOf items (now (bids .entry)) b ⌝ }
-{
-    let start = b * items;
-    let end = start + items;
-    &bids[start..end]
 }
 
 // The demands of all bidders: an item set for each, and the set of those who demand null.
@@ -90,14 +76,14 @@ struct Demands {
 }
 
 fn demands_at(prices: &[u16; 32], bids: &[u16], items: usize, bidders: usize) -> Demands
-    requires { ⌜ Counted items bidders (now bids) ⌝ }
+    requires { ⌜ Fit items bidders (now bids) × Small (now prices) ⌝ }
     ensures { λ r. ⌜ Demanded items bidders (now (prices .entry)) (now (bids .entry)) (r .sets) (r .nulls) ⌝ }
 {
     let mut sets = [0u32; 64];
     let mut nulls: u64 = 0;
     let mut b: usize = 0;
     while b < bidders {
-        let d = demand_of(prices, row(bids, items, b));
+        let d = demand_of(prices, bids::line(bids, items, bidders, b + 1));
         sets[b] = d.items;
         nulls = round::add_bidder(nulls, b + 1, d.null);
         b += 1;
@@ -108,53 +94,25 @@ fn demands_at(prices: &[u16; 32], bids: &[u16], items: usize, bidders: usize) ->
     }
 }
 
-// ---- the rounds
+// ---- the close, without its rounds
 
-// The rising set at prices.
-fn rising_at(prices: &[u16; 32], bids: &[u16], items: usize, bidders: usize) -> u32
-    requires { ⌜ Counted items bidders (now bids) ⌝ }
-    ensures { λ r. ⌜ r ≡ excessDemand items (demands items (rowsOf items bidders (now (bids .entry))) (now (prices .entry))) ⌝ }
+fn wide(x: u16) -> u32
+    ensures { λ r. ⌜ r ≡ x ⌝ }
 {
-    let d = demands_at(prices, bids, items, bidders);
-    let sets = d.sets;
-    round::rising(&sets, d.nulls)
+    x as u32
 }
 
-// The falling set at prices, where no price past the items is above 0.
-fn falling_at(prices: &[u16; 32], bids: &[u16], items: usize, bidders: usize) -> u32
-    requires { ⌜ Counted items bidders (now bids) × (positive 32 (now prices) ≡ positive items (now prices)) ⌝ }
-    ensures { λ r. ⌜ r ≡ excessSupply items (positive items (now (prices .entry)))
-        (demands items (rowsOf items bidders (now (bids .entry))) (now (prices .entry))) ⌝ }
+// The most that a price is over the other at its place.
+fn furthest(a: &[u16; 32], b: &[u16; 32]) -> u32
+    ensures { λ r. ⌜ r ≡ greatest 32 (λ i. amount (now (a .entry)) i - amount (now (b .entry)) i) ⌝ }
 {
-    let d = demands_at(prices, bids, items, bidders);
-    let sets = d.sets;
-    round::falling(&sets, round::positive(prices))
-}
-
-// Rounds in one direction, and the prices after them.
-struct Moves {
-    rounds: u32,
-    prices: [u16; 32],
-}
-
-// The rounds up to the turn.
-fn rise(start: &[u16], bids: &[u16], items: usize, bidders: usize) -> Moves
-    requires { ⌜ (length (now bids) ≡ bidders * items) × (withinLimits (sheetOf items bidders (now start) (now bids)) ≡ true) ⌝ }
-    ensures { λ r. ⌜ (r .rounds ≡ close (sheetOf items bidders (now (start .entry)) (now (bids .entry))) .ups)
-        × (r .prices ≡ places 32 (path (sheetOf items bidders (now (start .entry)) (now (bids .entry))) (close (sheetOf items bidders (now (start .entry)) (now (bids .entry))) .ups) .prices)) ⌝ }
-{
-    let mut p = prices::in_places(start);
-    let mut rounds: u32 = 0;
-    let mut set = rising_at(&p, bids, items, bidders);
-    while set != 0 {
-        p = prices::raised(&p, set);
-        rounds += 1;
-        set = rising_at(&p, bids, items, bidders);
+    let mut most: u16 = 0;
+    let mut i: usize = 0;
+    while i < 32 {
+        most = prices::larger(most, prices::over(a[i], b[i]));
+        i += 1;
     }
-    Moves {
-        rounds: rounds,
-        prices: p,
-    }
+    wide(most)
 }
 
 // The rounds to the close, and the closing prices.
@@ -164,26 +122,22 @@ struct Path {
     prices: [u16; 32],
 }
 
+// No round is played: the least prices from the start up are those at the turn, the least from 0 up the closing prices, and the rounds are the
+// largest rise and the largest fall.
 fn rounds(start: &[u16], bids: &[u16], items: usize, bidders: usize) -> Path
-    requires { ⌜ (length (now bids) ≡ bidders * items) × (withinLimits (sheetOf items bidders (now start) (now bids)) ≡ true) ⌝ }
+    requires { ⌜ sealedRefusal items bidders (now start) (now bids) ≡ 0 ⌝ }
     ensures { λ r. ⌜ (r .raised ≡ close (sheetOf items bidders (now (start .entry)) (now (bids .entry))) .ups)
         × (r .lowered ≡ close (sheetOf items bidders (now (start .entry)) (now (bids .entry))) .downs)
         × (r .prices ≡ places 32 (close (sheetOf items bidders (now (start .entry)) (now (bids .entry))) .prices)) ⌝ }
 {
-    let top = rise(start, bids, items, bidders);
-    let ups = top.rounds;
-    let mut p = top.prices;
-    let mut downs: u32 = 0;
-    let mut set = falling_at(&p, bids, items, bidders);
-    while set != 0 {
-        p = prices::lowered(&p, set);
-        downs += 1;
-        set = falling_at(&p, bids, items, bidders);
-    }
+    let first = prices::in_places(start);
+    let ends = least::close_and_turn(start, bids, items, bidders);
+    let turn = ends.turn;
+    let close = ends.close;
     Path {
-        raised: ups,
-        lowered: downs,
-        prices: p,
+        raised: furthest(&turn, &first),
+        lowered: furthest(&turn, &close),
+        prices: close,
     }
 }
 

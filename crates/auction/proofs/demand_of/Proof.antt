@@ -7,6 +7,7 @@ use lib.ListN.{length}
 use Rattle.sets.specs.Bit.{setOf}
 use Rattle.rule.specs.Demand.{best, demand}
 use Rattle.round.proofs.Adding.{add-next, add-end}
+use Rattle.bids.specs.Fit.{Small}
 use Rattle.auction.proofs.Surplus.{item-test, null-test}
 use borrow.Author.Needs.{needs}
 use Rattle.auction.proofs.demand_of.Statement.{statement}
@@ -19,7 +20,7 @@ abbrev μ-loop : tie.MeasureT-loop
 μ-loop prices line top items₀ i₀ items i = length line - i
 
 returns : tie.Need-returns Inv-loop μ-loop
-returns c = absurd (omega arith)
+returns c = absurd (omega (arith, c .if1 .taken, c .before .before .pre .0))
 
 highest-requires : tie.Need-highest-requires Inv-loop μ-loop
 highest-requires c κs = search needs
@@ -44,7 +45,11 @@ element-copy-out-worth : tie.Need-element-copy-out-worth Inv-loop μ-loop
 element-copy-out-worth c = search needs
 
 worth-requires : tie.Need-worth-requires Inv-loop μ-loop
-worth-requires c κs = search needs
+unfolding Small
+worth-requires c κs =
+    let i = c .before .before .before .loop .i in
+    let pre = c .before .before .before .before .before .before .before .pre in
+    (pre .2 i, pre .1 i)
 
 add-item-requires : tie.Need-add-item-requires Inv-loop μ-loop
 add-item-requires c κs = search needs
@@ -62,8 +67,8 @@ loop-again c =
     let at = c .before .before .before .before .before .loop in
     let lt = c .before .before .before .before .loop-test .taken in
     let w = c .before .worth in (
-      omega arith,
-      add-next 32 (best (length (a .line .now)) (a .prices .now) (a .line .now)) (at .i) (omega (arith, lt, c .before .before .before .before .before .before .before .before .before .pre)) (at .items) (eqb (w .result) (top .result)) (c .add-item .result) (at .inv .1)
+      omega (arith, lt),
+      add-next 32 (best (length (a .line .now)) (a .prices .now) (a .line .now)) (at .i) (omega (arith, lt, c .before .before .before .before .before .before .before .before .before .pre .0)) (at .items) (eqb (w .result) (top .result)) (c .add-item .result) (at .inv .1)
           (item-test (length (a .line .now)) (a .prices .now) (a .line .now) (top .result) (top .ensures) (at .i) (w .result) lt (w .ensures)) (c .add-item .ensures),
     )
 

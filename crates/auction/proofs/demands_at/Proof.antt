@@ -1,9 +1,6 @@
 -- `auction::demands_at` meets its contract. Each turn collects one bidder's demand. Assumes nothing.
 use Prim.Native.Nat.{_-_}
-use native.Mathlib.Omega.{arith}
-use lib.ListN.{length}
-use Rattle.bids.proofs.Lent.{line-inside}
-use Rattle.auction.proofs.Demanding.{Collected, line-short, collect-start, collect-next, collect-end}
+use Rattle.auction.proofs.Demanding.{Collected, line-short, line-small, collect-start, collect-next, collect-end}
 use borrow.Author.Needs.{needs}
 use Rattle.auction.proofs.demands_at.Statement.{statement}
 use Rattle.auction.proofs.demands_at.Tie as tie
@@ -17,17 +14,23 @@ abbrev μ-loop : tie.MeasureT-loop
 loop-holds : tie.Need-loop-holds Inv-loop μ-loop
 loop-holds c = let a = c .before .args in collect-start (a .items) (a .bidders) (a .prices .now) (a .bids .now)
 
-row-requires : tie.Need-row-requires Inv-loop μ-loop
-row-requires c κs =
-    let a = c .before .before .before .args in
-    let pre = c .before .before .before .pre in
-    let at = c .before .loop in
-    (pre .max-items, omega (arith, c .loop-test .taken, pre .max-bidders), line-inside (a .items) (a .bidders) (at .b) (length (a .bids .now)) (pre .long) (c .loop-test .taken))
+add-line : tie.Need-add-line Inv-loop μ-loop
+add-line c = search needs
+
+line-requires : tie.Need-line-requires Inv-loop μ-loop
+line-requires c κs = search needs
 
 demand-of-requires : tie.Need-demand-of-requires Inv-loop μ-loop
 demand-of-requires c κs =
     let a = c .before .before .before .before .args in
-    line-short (a .items) (a .bidders) (a .prices .now) (a .bids .now) (c .before .before .before .before .pre) (c .before .before .loop .b) (c .before .loop-test .taken) (c .row .result .now) (c .row .ensures)
+    let fit = c .before .before .before .before .pre .0 in
+    let b = c .before .before .loop .b in
+    let lt = c .before .loop-test .taken in
+    let line = c .line in (
+      line-short (a .items) (a .bidders) (a .prices .now) (a .bids .now) fit b lt (line .result .now) (line .ensures),
+      c .before .before .before .before .pre .1,
+      line-small (a .items) (a .bidders) (a .prices .now) (a .bids .now) fit b lt (line .result .now) (line .ensures),
+    )
 
 mul-sets : tie.Need-mul-sets Inv-loop μ-loop
 mul-sets c = search needs
@@ -51,16 +54,16 @@ loop-again : tie.Need-loop-again Inv-loop μ-loop
 loop-again c =
     let a = c .before .before .before .before .before .before .args in
     let at = c .before .before .before .before .loop in
-    let line = c .before .before .row in
+    let line = c .before .before .line in
     let d = c .before .demand-of in
-    collect-next (a .items) (a .bidders) (a .prices .now) (a .bids .now) (c .before .before .before .before .before .before .pre) (at .b) (c .before .before .before .loop-test .taken) (line .result .now) (line .ensures)
+    collect-next (a .items) (a .bidders) (a .prices .now) (a .bids .now) (c .before .before .before .before .before .before .pre .0) (at .b) (c .before .before .before .loop-test .taken) (line .result .now) (line .ensures)
     (at .sets) (at .nulls) (at .inv) (d .result .items) (d .ensures .1) (d .result .null) (d .ensures .0) (c .add-bidder .result) (c .add-bidder .ensures)
 
 returns : tie.Need-returns Inv-loop μ-loop
 returns c =
     let a = c .before .before .before .args in
     let at = c .before .loop in
-    collect-end (a .items) (a .bidders) (a .prices .now) (a .bids .now) (c .before .before .before .pre) (at .sets) (at .nulls) (at .b) (at .inv) (c .loop-test .left)
+    collect-end (a .items) (a .bidders) (a .prices .now) (a .bids .now) (c .before .before .before .pre .0) (at .sets) (at .nulls) (at .b) (at .inv) (c .loop-test .left)
 
 pub demands-at-spec : {M : Type 1} → statement M
 demands-at-spec =
@@ -69,7 +72,8 @@ demands-at-spec =
     Inv-loop
     μ-loop
     loop-holds
-    row-requires
+    add-line
+    line-requires
     demand-of-requires
     mul-sets
     array-write-sets

@@ -3,6 +3,7 @@ use Prim.Native.Nat.{ℕ, _+_, _-_, _≤_}
 use mathlib.Core.Path.{_≡_, sym, subst}
 use native.Mathlib.Omega.{arith}
 use lib.ListN.{length}
+use Rattle.bids.specs.Fit.{Small}
 use Rattle.auction.specs.Steps.{Highest}
 use Rattle.auction.proofs.Surplus.{highest-none, highest-more}
 use borrow.Author.Needs.{needs}
@@ -31,7 +32,11 @@ element-copy-out-worth : tie.Need-element-copy-out-worth Inv-loop μ-loop
 element-copy-out-worth c = search needs
 
 worth-requires : tie.Need-worth-requires Inv-loop μ-loop
-worth-requires c κs = search needs
+unfolding Small
+worth-requires c κs =
+    let i = c .before .before .before .loop .i in
+    let pre = c .before .before .before .before .before .pre in
+    (pre .2 i, pre .1 i)
 
 larger-requires : tie.Need-larger-requires Inv-loop μ-loop
 larger-requires c κs = search needs
@@ -46,9 +51,8 @@ loop-again : tie.Need-loop-again Inv-loop μ-loop
 loop-again c =
     let a = c .before .before .before .before .before .before .before .args in
     let at = c .before .before .before .before .before .loop in
-    let lt = c .before .before .before .before .loop-test .taken in
     let w = c .before .worth in (
-      omega arith,
+      omega (arith, c .before .before .before .before .loop-test .taken),
       subst (λ (x : ℕ). Highest (at .i + 1) (a .prices .now) (a .line .now) x) (sym (c .larger .ensures))
           (highest-more (at .i) (a .prices .now) (a .line .now) (at .top) (w .result) (at .inv .1) (w .ensures)),
     )

@@ -1,11 +1,11 @@
 -- `auction::sealed` meets its contract. The steps' answers make up the close of the sheet's path, which promises all that demand 3 asks. Assumes nothing.
 use mathlib.Core.Path.{sym, _∙_}
 use Rattle.bids.specs.Lent.{sheetOf}
+use Rattle.bids.proofs.Limits.{fine, accepted-within}
+use Rattle.bids.proofs.Fitting.{bids-fit}
 use Rattle.auction.specs.Sealed.{refused}
-use Rattle.bids.proofs.Limits.{accepted-within}
-use Rattle.auction.proofs.Demanding.{counted}
-use Rattle.auction.proofs.Walking.{ready, past-items}
-use Rattle.auction.proofs.Sealing.{sealed-refused, sealed-closed, sealed-promised, sealed-is, close-long}
+use Rattle.auction.proofs.Settling.{ready, past-items, close-small}
+use Rattle.auction.proofs.Sealing.{sealed-refused, sealed-closed, sealed-promised, sealed-is}
 use borrow.Author.Needs.{needs}
 use Rattle.auction.proofs.sealed.Statement.{statement}
 use Rattle.auction.proofs.sealed.Tie as tie
@@ -21,15 +21,15 @@ returns c =
     (e, sealed-promised (a .items) (a .bidders) (a .start .now) (a .bids .now) _ e)
 
 rounds-requires : tie.Need-rounds-requires
-rounds-requires c κs =
-    let a = c .before .before .before .before .args in
-    accepted-within (a .items) (a .bidders) (a .start .now) (a .bids .now) (sym (c .before .refusal .ensures) ∙ c .if1 .left)
+rounds-requires c κs = sym (c .before .refusal .ensures) ∙ c .if1 .left
 
 demands-at-requires : tie.Need-demands-at-requires
 demands-at-requires c κs =
     let a = c .before .before .before .before .before .before .before .args in
-    let w = accepted-within (a .items) (a .bidders) (a .start .now) (a .bids .now) (sym (c .before .before .before .before .refusal .ensures) ∙ c .before .before .before .if1 .left) in
-    counted (a .items) (a .bidders) (a .start .now) (a .bids .now) (w .0) (w .1)
+    let z = sym (c .before .before .before .before .refusal .ensures) ∙ c .before .before .before .if1 .left in
+    let s = sheetOf (a .items) (a .bidders) (a .start .now) (a .bids .now) in
+    let p = c .before .before .rounds in
+    (bids-fit (fine (a .items) (a .bidders) (a .start .now) (a .bids .now) z), close-small s (ready s (accepted-within (a .items) (a .bidders) (a .start .now) (a .bids .now) z .1)) (p .result .prices) (p .ensures .2))
 
 positive-requires : tie.Need-positive-requires
 positive-requires c κs = search needs
@@ -42,13 +42,13 @@ unfolding sheetOf
 returns-2 c =
     let a = c .before .before .before .before .before .before .before .before .before .before .before .before .before .args in
     let z = sym (c .before .before .before .before .before .before .before .before .before .before .refusal .ensures) ∙ c .before .before .before .before .before .before .before .before .before .if1 .left in
-    let g = ready (sheetOf (a .items) (a .bidders) (a .start .now) (a .bids .now)) (accepted-within (a .items) (a .bidders) (a .start .now) (a .bids .now) z .1) in
+    let s = sheetOf (a .items) (a .bidders) (a .start .now) (a .bids .now) in
+    let g = ready s (accepted-within (a .items) (a .bidders) (a .start .now) (a .bids .now) z .1) in
     let p = c .before .before .before .before .before .before .before .before .rounds in
     let d = c .before .before .before .before .before .demands-at in
     let above = c .before .positive in
-    let e = sealed-is (sheetOf (a .items) (a .bidders) (a .start .now) (a .bids .now)) g (a .bidders) (p .result .prices) (d .result .sets) (d .result .nulls) (above .result) (p .ensures .2)
-    (above .ensures ∙ past-items (sheetOf (a .items) (a .bidders) (a .start .now) (a .bids .now)) g _ (close-long (sheetOf (a .items) (a .bidders) (a .start .now) (a .bids .now)) g) (p .result .prices) (p .ensures .2)) (d .ensures .reported) (d .ensures .same) (p .result .raised) (p .result .lowered) (c .first .result)
-    (p .ensures .0) (p .ensures .1) (c .first .ensures) ∙ sealed-closed (a .items) (a .bidders) (a .start .now) (a .bids .now) z in
+    let e = sealed-is s g (a .bidders) (p .result .prices) (d .result .sets) (d .result .nulls) (above .result) (p .ensures .2) (above .ensures ∙ past-items s g (p .result .prices) (p .ensures .2))
+    (d .ensures .reported) (d .ensures .same) (p .result .raised) (p .result .lowered) (c .first .result) (p .ensures .0) (p .ensures .1) (c .first .ensures) ∙ sealed-closed (a .items) (a .bidders) (a .start .now) (a .bids .now) z in
     (e, sealed-promised (a .items) (a .bidders) (a .start .now) (a .bids .now) _ e)
 
 pub sealed-spec : {M : Type 1} → statement M

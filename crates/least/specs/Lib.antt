@@ -1,0 +1,9 @@
+pub mod Least
+pub mod Holding
+pub mod Searching
+pub mod Shifting
+pub mod Steps
+pub mod Putting
+pub mod Transposing
+pub mod Falling
+pub mod Lifting
