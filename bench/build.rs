@@ -1,11 +1,13 @@
-//! Links the matching's exports, which `rt staticlib matching_exports` leaves in the repository.
+//! Links what `rt staticlib` leaves in the repository of the matching's exports and of the benchmark's.
 
 use std::path::PathBuf;
 
 fn main() {
     let here = PathBuf::from(std::env::var_os("CARGO_MANIFEST_DIR").expect("cargo sets it"));
     let folder = here.parent().expect("the repository").join("target/staticlib");
-    println!("cargo:rerun-if-changed={}", folder.join("libmatching_exports.a").display());
     println!("cargo:rustc-link-search=native={}", folder.display());
-    println!("cargo:rustc-link-lib=static=matching_exports");
+    for library in ["matching_exports", "bench_exports"] {
+        println!("cargo:rerun-if-changed={}", folder.join(format!("lib{library}.a")).display());
+        println!("cargo:rustc-link-lib=static={library}");
+    }
 }

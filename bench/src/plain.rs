@@ -1,5 +1,5 @@
-//! The proved code's algorithms once more in plain Rust, as a programmer would write them: a demand pass, augmenting chains with
-//! the entered items of failed chains kept, and the first assignment by asking for covers.
+//! The matching once more in plain Rust, as a programmer would write it: free items first, then augmenting chains, with the entered items of
+//! failed chains kept. And the sealed auction round by round: a demand pass, the sets by the matching, the first assignment by asking for covers.
 
 /// The bidder side of a chain: the lowest item not yet entered, and on failure the next. `may` are bidders who can go without.
 fn place(holder: &mut [u8; 32], entered: &mut u32, demand: &[u32; 64], may: u64, bidder: usize) -> bool {
@@ -29,6 +29,10 @@ fn take(holder: &mut [u8; 32], entered: &mut u32, demand: &[u32; 64], may: u64, 
 fn settle(holder: &mut [u8; 32], demand: &[u32; 64]) -> u32 {
     let mut kept = 0;
     for bidder in 0..64 {
+        if let Some(item) = free_item(holder, demand[bidder] & !kept) {
+            holder[item] = bidder as u8 + 1;
+            continue;
+        }
         let mut entered = kept;
         if !place(holder, &mut entered, demand, 0, bidder) {
             kept = entered;
@@ -37,32 +41,51 @@ fn settle(holder: &mut [u8; 32], demand: &[u32; 64]) -> u32 {
     kept
 }
 
+/// The lowest of the items that nobody holds.
+fn free_item(holder: &[u8; 32], mut items: u32) -> Option<usize> {
+    while items != 0 {
+        let item = items.trailing_zeros() as usize;
+        if holder[item] == 0 {
+            return Some(item);
+        }
+        items &= items - 1;
+    }
+    None
+}
+
 /// The largest set in excess demand.
 #[inline(never)]
 pub fn excess_demand(demand: &[u32; 64]) -> u32 {
     settle(&mut [0; 32], demand)
 }
 
-/// Whether some match places each of the bidders and gives out each of the items.
-#[inline(never)]
-pub fn covers(demand: &[u32; 64], bidders: u64, items: u32) -> bool {
+/// A match that places each of the bidders and gives out each of the items: who holds each item. Others may hold one too.
+pub fn complete(demand: &[u32; 64], bidders: u64, items: u32) -> Option<[u8; 32]> {
     let mut holder = [0; 32];
     settle(&mut holder, &demand.map(|d| d & items));
     if (0..32).any(|i| items >> i & 1 == 1 && holder[i] == 0) {
-        return false;
+        return None;
     }
-    (0..64).all(|b| {
+    let all = (0..64).all(|b| {
         let placed = bidders >> b & 1 == 0 || holder.contains(&(b as u8 + 1));
         placed || place(&mut holder, &mut 0, demand, !bidders, b)
-    })
+    });
+    all.then_some(holder)
 }
 
-struct Demands {
-    items: [u32; 64],
-    nulls: u64,
+/// Whether there is such a match.
+#[inline(never)]
+pub fn covers(demand: &[u32; 64], bidders: u64, items: u32) -> bool {
+    complete(demand, bidders, items).is_some()
 }
 
-fn demands(prices: &[u16; 32], bids: &[u16], items: usize) -> Demands {
+#[derive(Clone, PartialEq, Eq, Debug)]
+pub struct Demands {
+    pub items: [u32; 64],
+    pub nulls: u64,
+}
+
+pub fn demands(prices: &[u16; 32], bids: &[u16], items: usize) -> Demands {
     let mut all = Demands { items: [0; 64], nulls: 0 };
     for (b, line) in bids.chunks_exact(items).enumerate() {
         let surplus = |(&bid, &price): (&u16, &u16)| i32::from(bid) - i32::from(price);
@@ -75,7 +98,7 @@ fn demands(prices: &[u16; 32], bids: &[u16], items: usize) -> Demands {
     all
 }
 
-fn rising(d: &Demands) -> u32 {
+pub fn rising(d: &Demands) -> u32 {
     let mut own = d.items;
     for (b, set) in own.iter_mut().enumerate() {
         if d.nulls >> b & 1 == 1 {
@@ -85,11 +108,11 @@ fn rising(d: &Demands) -> u32 {
     excess_demand(&own)
 }
 
-fn above_zero(prices: &[u16; 32]) -> u32 {
+pub fn above_zero(prices: &[u16; 32]) -> u32 {
     (0..32).filter(|&i| prices[i] > 0).fold(0, |s, i| s | 1 << i)
 }
 
-fn falling(d: &Demands, prices: &[u16; 32]) -> u32 {
+pub fn falling(d: &Demands, prices: &[u16; 32]) -> u32 {
     let above = above_zero(prices);
     above & !excess_demand(&d.items.map(|set| set & above))
 }
@@ -120,35 +143,35 @@ fn assign(d: &Demands, above: u32, bidders: usize) -> [u8; 64] {
     names
 }
 
-/// The sealed auction of a sheet within the limits.
+/// What a close is written to.
+#[derive(Clone, PartialEq, Eq, Debug)]
+pub struct Closing {
+    pub rounds: [u32; 2],
+    pub prices: Vec<u16>,
+    pub names: Vec<u8>,
+}
+
+/// The sealed auction of a sheet within the limits, round by round.
 #[inline(never)]
-pub fn sealed(
-    items: usize,
-    bidders: usize,
-    start: &[u16],
-    bids: &[u16],
-    rounds: &mut [u32; 2],
-    prices: &mut [u16],
-    names: &mut [u8],
-) {
+pub fn sealed(items: usize, bidders: usize, start: &[u16], bids: &[u16], closing: &mut Closing) {
     let mut p = [0; 32];
     p[..items].copy_from_slice(start);
-    *rounds = [0; 2];
+    closing.rounds = [0; 2];
     let mut d = demands(&p, bids, items);
     let mut set = rising(&d);
     while set != 0 {
         (0..32).filter(|&i| set >> i & 1 == 1).for_each(|i| p[i] += 1);
-        rounds[0] += 1;
+        closing.rounds[0] += 1;
         d = demands(&p, bids, items);
         set = rising(&d);
     }
     set = falling(&d, &p);
     while set != 0 {
         (0..32).filter(|&i| set >> i & 1 == 1).for_each(|i| p[i] -= 1);
-        rounds[1] += 1;
+        closing.rounds[1] += 1;
         d = demands(&p, bids, items);
         set = falling(&d, &p);
     }
-    prices.copy_from_slice(&p[..items]);
-    names.copy_from_slice(&assign(&d, above_zero(&p), bidders)[..bidders]);
+    closing.prices.copy_from_slice(&p[..items]);
+    closing.names.copy_from_slice(&assign(&d, above_zero(&p), bidders)[..bidders]);
 }

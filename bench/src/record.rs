@@ -1,0 +1,180 @@
+//! The live auction once more in plain Rust, as a programmer would write it: a record that each call changes in place.
+
+use crate::plain::{above_zero, falling, rising, Demands};
+use crate::{bytes, search};
+use model::live::{self, Answer, Phase, Report};
+use model::{Kind, TOP};
+
+/// The calls on a record, which they change in place; each answers its number, or 0.
+pub trait Calls: Clone {
+    fn report(&mut self, bidder: u32, report: Report) -> u8;
+    fn clear(&mut self) -> u8;
+    fn end(&mut self) -> Answer;
+    fn read(&self, out: &mut [u8]) -> u8;
+}
+
+#[derive(Clone, PartialEq, Eq, Debug)]
+pub struct Record {
+    items: usize,
+    bidders: usize,
+    prices: [u16; 32],
+    reports: Demands,
+    reported: u64,
+    phase: Phase,
+    raised: u32,
+    lowered: u32,
+}
+
+impl Record {
+    pub fn of(r: &live::Record) -> Record {
+        let nulls = r.reports.iter().enumerate().fold(0, |s, (b, report)| s | u64::from(report.null) << b);
+        Record {
+            items: r.items as usize,
+            bidders: r.bidders as usize,
+            prices: r.prices,
+            reports: Demands { items: r.reports.map(|report| report.items), nulls },
+            reported: r.reported,
+            phase: r.phase,
+            raised: r.raised,
+            lowered: r.lowered,
+        }
+    }
+
+    fn everybody(&self) -> u64 {
+        u64::MAX >> (64 - self.bidders)
+    }
+
+    fn rising_set(&self) -> u32 {
+        rising(&self.reports)
+    }
+
+    fn falling_set(&self) -> u32 {
+        falling(&self.reports, &self.prices)
+    }
+
+    /// Number 11 does not apply.
+    fn well_formed(&self) -> bool {
+        if !(1..=32).contains(&self.items) || !(1..=64).contains(&self.bidders) {
+            return false;
+        }
+        if self.prices.iter().any(|&p| p > TOP) || self.prices[self.items..].iter().any(|&p| p != 0) {
+            return false;
+        }
+        // A report stands in the place of each bidder who has reported, and in no other.
+        let beyond = !(u32::MAX >> (32 - self.items));
+        let mut says = self.reports.nulls;
+        let mut wrong = 0;
+        for (b, &set) in self.reports.items.iter().enumerate() {
+            says |= u64::from(set != 0) << b;
+            wrong |= set & beyond;
+        }
+        if wrong != 0 || says != self.reported || self.reported & !self.everybody() != 0 {
+            return false;
+        }
+        let sum: u32 = self.prices.iter().map(|&p| u32::from(p)).sum();
+        let most = u64::from(TOP) * self.items as u64;
+        let within = u64::from(self.raised) <= most && u64::from(sum) + u64::from(self.lowered) <= most;
+        match self.phase {
+            Phase::Rising => self.lowered == 0 && self.raised <= sum,
+            Phase::Falling => within,
+            Phase::Closed => within && self.reported == self.everybody() && self.rising_set() == 0 && self.falling_set() == 0,
+        }
+    }
+
+    fn emptied(&mut self) {
+        self.reports = Demands { items: [0; 64], nulls: 0 };
+        self.reported = 0;
+    }
+
+    /// 11, 12, or 0.
+    fn stopped(&self) -> u8 {
+        match (self.well_formed(), self.phase) {
+            (false, _) => 11,
+            (true, Phase::Closed) => 12,
+            _ => 0,
+        }
+    }
+}
+
+impl Calls for Record {
+    #[inline(never)]
+    fn report(&mut self, bidder: u32, report: Report) -> u8 {
+        let stopped = self.stopped();
+        if stopped != 0 {
+            return stopped;
+        }
+        let b = bidder.wrapping_sub(1) as usize;
+        if b >= self.bidders {
+            return 7;
+        }
+        if self.reported >> b & 1 == 1 {
+            return 13;
+        }
+        if live::unfit(self.items as u32, report) {
+            return 8;
+        }
+        self.reports.items[b] = report.items;
+        self.reports.nulls |= u64::from(report.null) << b;
+        self.reported |= 1 << b;
+        0
+    }
+
+    #[inline(never)]
+    fn clear(&mut self) -> u8 {
+        let stopped = self.stopped();
+        if stopped == 0 {
+            self.emptied();
+        }
+        stopped
+    }
+
+    #[inline(never)]
+    fn end(&mut self) -> Answer {
+        let stopped = self.stopped();
+        if stopped != 0 {
+            return Answer::Refused(stopped);
+        }
+        if self.reported != self.everybody() {
+            return Answer::Refused(14);
+        }
+        let rising = self.rising_set();
+        if rising != 0 {
+            if self.phase == Phase::Falling {
+                return Answer::Refused(16);
+            }
+            if (0..32).any(|i| rising >> i & 1 == 1 && self.prices[i] == TOP) {
+                return Answer::Refused(17);
+            }
+            (0..32).for_each(|i| self.prices[i] += (rising >> i & 1) as u16);
+            self.raised += 1;
+            self.emptied();
+            return Answer::Moved(Kind::Raised, rising);
+        }
+        let falling = self.falling_set();
+        if falling != 0 {
+            (0..32).for_each(|i| self.prices[i] -= (falling >> i & 1) as u16);
+            self.lowered += 1;
+            self.phase = Phase::Falling;
+            self.emptied();
+            return Answer::Moved(Kind::Lowered, falling);
+        }
+        self.phase = Phase::Closed;
+        Answer::Closed
+    }
+
+    #[inline(never)]
+    fn read(&self, out: &mut [u8]) -> u8 {
+        if !self.well_formed() {
+            return 11;
+        }
+        if self.phase != Phase::Closed {
+            return 15;
+        }
+        let names = search::first(&self.reports, above_zero(&self.prices), self.bidders, &mut 0);
+        let rounds = [self.raised, self.lowered];
+        if !bytes::write_closing(out, rounds, &self.prices[..self.items], &names[..self.bidders]) {
+            return 3;
+        }
+        0
+    }
+}

@@ -1,0 +1,68 @@
+//! The sheets that the sealed auction is timed on: random ones, ones with many ties, and the worst that a search finds.
+
+use crate::plain::Closing;
+use crate::search;
+use model::random::Random;
+use model::{Sheet, TOP};
+
+/// Bids from 0 to `top`, starting prices as `start` gives them.
+pub fn random(items: usize, bidders: usize, top: u16, start: impl Fn(&mut Random) -> u16, r: &mut Random) -> Sheet {
+    let starts = (0..items).map(|_| start(r)).collect();
+    Sheet { items, bidders, start: starts, bids: (0..items * bidders).map(|_| r.amount(top)).collect() }
+}
+
+/// 32 items and 64 bidders by a rule, both counted from 0, from prices of 0.
+pub fn by(mut bid: impl FnMut(usize, usize) -> usize) -> Sheet {
+    let bids = (0..64 * 32).map(|k| bid(k / 32, k % 32) as u16).collect();
+    Sheet { items: 32, bidders: 64, start: vec![0; 32], bids }
+}
+
+/// 4,095 rounds up and as many down: everybody wants the first half, from 0, and nobody the second half, from 4,095.
+pub fn longest() -> Sheet {
+    let line: Vec<u16> = (0..32).map(|i| if i < 16 { TOP } else { 0 }).collect();
+    let start = line.iter().map(|&x| TOP - x).collect();
+    Sheet { items: 32, bidders: 64, start, bids: line.repeat(64) }
+}
+
+/// How much the searches of a sheet have to do, by the plain Rust of the same search.
+fn work(s: &Sheet) -> u32 {
+    let mut closing = Closing { rounds: [0; 2], prices: vec![0; s.items], names: vec![0; s.bidders] };
+    search::sealed(s.items, s.bidders, &s.start, &s.bids, &mut closing)
+}
+
+/// A sheet from which no change tried makes the searches longer: numbers are moved, drawn again and swapped, bidders and items copied and
+/// swapped, and what makes more work stays.
+pub fn worst(from: Sheet, steps: usize, r: &mut Random) -> Sheet {
+    let mut worst = from;
+    let mut most = work(&worst);
+    for _ in 0..steps {
+        let next = changed(&worst, r);
+        let work = work(&next);
+        if most <= work {
+            (worst, most) = (next, work);
+        }
+    }
+    worst
+}
+
+fn changed(s: &Sheet, r: &mut Random) -> Sheet {
+    let mut t = s.clone();
+    let (items, bidders) = (s.items, s.bidders);
+    let k = r.within(0, items * bidders - 1);
+    let (a, b) = (r.within(0, bidders - 1), r.within(0, bidders - 1));
+    let (i, j) = (r.within(0, items - 1), r.within(0, items - 1));
+    let near = |x: u16, r: &mut Random| (x + r.amount(8)).saturating_sub(4).min(TOP);
+    match r.within(0, 6) {
+        0 => t.bids[k] = r.amount(TOP),
+        1 => t.bids[k] = near(t.bids[k], r),
+        2 => t.start[i] = r.amount(TOP),
+        3 => t.start[i] = near(t.start[i], r),
+        4 => (0..items).for_each(|x| t.bids.swap(a * items + x, b * items + x)),
+        5 => (0..items).for_each(|x| t.bids[a * items + x] = s.bids[b * items + x]),
+        _ => {
+            (0..bidders).for_each(|x| t.bids.swap(x * items + i, x * items + j));
+            t.start.swap(i, j);
+        }
+    }
+    t
+}
