@@ -5,7 +5,7 @@ use mathlib.Core.List.{List, [], _∷_}
 use Rattle.live.specs.declared.Auction.{Auction}
 use Rattle.live.specs.declared.Phase.{Phase}
 use Rattle.live.specs.declared.Phase.the-variants.{Rising, Falling, Closed}
-use Rattle.bench_exports.specs.Lent.{phaseOf, phaseNumber, StandsIn}
+use Rattle.bench_exports.specs.Lent.{phaseOf, phaseNumber, recordIn, StandsIn}
 
 -- any other number than 0 and 1 is the closed phase
 pub beyond : (n : ℕ) → (n ≡ 0 → ⊥) → (n ≡ 1 → ⊥) → Closed ≡ phaseOf n
@@ -23,3 +23,20 @@ stands r s numbers prices sets rounds e h =
       in-sets = h .in-sets ∙ ap (λ (x : Auction). x .sets) e;
       in-rounds = h .in-rounds ∙ ap (λ (x : Auction). x .raised ∷ x .lowered ∷ phaseNumber (x .phase) ∷ []) e;
     }
+
+phase-back : (p : Phase) → phaseOf (phaseNumber p) ≡ p
+unfolding phaseOf phaseNumber
+phase-back Rising = refl
+phase-back Falling = refl
+phase-back Closed = refl
+
+-- the record that stands in the lists in which one was left is that one
+pub stands-back : (r : Auction) (numbers prices sets rounds : List ℕ) → StandsIn r numbers prices sets rounds → recordIn numbers prices sets rounds ≡ r
+unfolding recordIn
+stands-back r numbers prices sets rounds h =
+    ap (λ (l : List ℕ). recordIn l prices sets rounds) (h .in-numbers) ∙ ap (λ (l : List ℕ). recordIn (numbersOf r) l sets rounds) (h .in-prices)
+    ∙ ap (λ (l : List ℕ). recordIn (numbersOf r) (r .prices) l rounds) (h .in-sets) ∙ ap (recordIn (numbersOf r) (r .prices) (r .sets)) (h .in-rounds)
+    ∙ ap (λ (p : Phase). record { items = r .items; bidders = r .bidders; prices = r .prices; sets = r .sets; nulls = r .nulls; reported = r .reported; phase = p; raised = r .raised; lowered = r .lowered }) (phase-back (r .phase))
+  where
+    numbersOf : Auction → List ℕ
+    numbersOf x = x .items ∷ x .bidders ∷ x .nulls ∷ x .reported ∷ []
