@@ -2,7 +2,7 @@
 use Prim.Native.Nat.{ℕ, zero, suc, _+_, _-_, _^_, _≤_, _<_, min}
 use mathlib.Core.Path.{_≡_, refl, sym, ap, ap₂, _∙_, fun-ext}
 use mathlib.Core.Bool.{Bool, false}
-use mathlib.Core.List.{List, _∷_, map}
+use mathlib.Core.List.{List, map}
 use mathlib.Core.Logic.{_⊎_, inl, inr}
 use native.Mathlib.Omega.{arith}
 use native.Mathlib.Nat.{zero-add}
@@ -13,7 +13,7 @@ use Rattle.sets.specs.Bit.{has, setOf, each}
 use Rattle.sets.specs.Count.{toNat}
 use Rattle.sets.specs.Lists.{tabulate, places}
 use Rattle.sets.proofs.Counting.{lt-or-le}
-use Rattle.sets.proofs.Lists.{tabulate-length, tabulate-at, places-length, places-at, is-tabulate}
+use Rattle.sets.proofs.Lists.{tabulate-length, tabulate-at, tabulate-shift, places-length, places-at, is-tabulate}
 use Rattle.sets.proofs.Members.{has-past}
 use Rattle.rule.specs.Sheet.{amount}
 use Rattle.rule.specs.Demand.{surplusAtLeast, best, demand, demands}
@@ -21,25 +21,19 @@ use Rattle.rule.specs.Excess.{positive}
 use Rattle.rule.specs.Round.{raise, lower}
 use Rattle.prices.specs.Prices.{raisePlaces}
 
--- numbers from 0 and from 1
-shift : (n : ℕ) (f : ℕ → ℕ) (i : ℕ) → tabulate n (λ k. f (suc k)) i ≡ tabulate n f (suc i)
-unfolding tabulate
-shift zero f i = refl
-shift (suc n) f i = ap (λ (xs : List ℕ). f (suc i) ∷ xs) (shift n f (suc i))
-
 -- ---- what the code computes, place by place
 
 pub raised-is : (p : List ℕ) (s : ℕ) → tabulate 32 (λ k. min 65535 (getD p k 0 + toNat (has s (k + 1)))) 0 ≡ raisePlaces p s
 unfolding raisePlaces amount
 raised-is p s =
     ap (λ (f : ℕ → ℕ). tabulate 32 (λ k. min 65535 (getD p k 0 + toNat (has s (f k)))) 0) (fun-ext add-one)
-    ∙ shift 32 (λ i. min 65535 (amount p i + toNat (has s i))) 0
+    ∙ tabulate-shift 32 (λ i. min 65535 (amount p i + toNat (has s i))) 0
 
 pub lowered-is : (p : List ℕ) (s : ℕ) → tabulate 32 (λ k. getD p k 0 - toNat (has s (k + 1))) 0 ≡ lower 32 p s
 unfolding lower amount
 lowered-is p s =
     ap (λ (f : ℕ → ℕ). tabulate 32 (λ k. getD p k 0 - toNat (has s (f k))) 0) (fun-ext add-one)
-    ∙ shift 32 (λ i. amount p i - toNat (has s i)) 0
+    ∙ tabulate-shift 32 (λ i. amount p i - toNat (has s i)) 0
 
 -- where no price of the set is 65,535, the code raises as the rule does
 pub raise-room : (p : List ℕ) (s : ℕ) → ((i : ℕ) → amount p i + toNat (has s i) ≤ 65535) → raisePlaces p s ≡ raise 32 p s

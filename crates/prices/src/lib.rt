@@ -1,7 +1,7 @@
 // What is done with prices alone. They stand in 32 places; where there are fewer items, the places past them hold zeros, and the laws of proofs/
 // carry each result over.
 ghost use mathlib.Core.Path.{_≡_};
-ghost use Prim.Native.Nat.{_+_, _-_, min, max};
+ghost use Prim.Native.Nat.{_+_, _-_, _≤_, min, max};
 ghost use lib.ListN.{getD};
 ghost use Rattle.sets.specs.Count.{toNat};
 ghost use Rattle.sets.specs.Lists.{places};
@@ -31,6 +31,13 @@ pub fn over(a: u16, b: u16) -> u16
         return 0;
     }
     a - b
+}
+
+// An amount where sums or rounds are counted.
+pub fn wide(x: u16) -> u32
+    ensures { λ r. ⌜ (r ≡ x) × (r ≤ 65535) ⌝ }
+{
+    x as u32
 }
 
 // The price, up by 1 where `on` says so; 65,535 stays.

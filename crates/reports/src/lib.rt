@@ -23,14 +23,7 @@ fn is_empty(null: bool, set: u32) -> bool
 fn holds_beyond(items: usize, set: u32) -> bool
     ensures { λ r. ⌜ r ≡ anyBelow 32 (λ k. leb items k && has set (suc k)) ⌝ }
 {
-    let mut k = items;
-    while k < 32 {
-        if sets::has_item(set, k + 1) {
-            return true;
-        }
-        k += 1;
-    }
-    false
+    sets::other_items(set, sets::first_items(items)) != 0
 }
 
 // number 8 refuses the report
@@ -73,16 +66,10 @@ pub fn all_fit(items: usize, bidders: usize, sets: &[u32], nulls: u64, reported:
     true
 }
 
-// a report is missing
+// a report is missing: of the bidders, fewer have reported than there are
 pub fn misses(bidders: usize, reported: u64) -> bool
     ensures { λ r. ⌜ r ≡ anyMissing bidders reported ⌝ }
 {
-    let mut k: usize = 0;
-    while k < bidders {
-        if !sets::has_bidder(reported, k + 1) {
-            return true;
-        }
-        k += 1;
-    }
-    false
+    let here = sets::common_bidders(reported, sets::first_bidders(bidders));
+    (sets::bidder_count(here) as usize) < bidders
 }

@@ -1,7 +1,7 @@
 -- A list by places has as many places as it says, and in each what it says. Assumes nothing.
 use Prim.Native.Nat.{ℕ, zero, suc, _+_, _<_}
 use mathlib.Core.Path.{_≡_, refl, sym, ap, _∙_, subst}
-use mathlib.Core.List.{List}
+use mathlib.Core.List.{List, _∷_}
 use native.Mathlib.Omega.{arith}
 use native.Mathlib.Nat.{not-suc-le-zero, add-zero, zero-add}
 use lib.ListN.{length, getD}
@@ -18,6 +18,12 @@ unfolding tabulate
 tabulate-at zero f i k z l = absurd (not-suc-le-zero l)
 tabulate-at (suc n) f i zero z l = ap f (sym (add-zero i))
 tabulate-at (suc n) f i (suc k) z l = tabulate-at n f (suc i) k z (omega arith) ∙ ap f (omega arith)
+
+-- numbers from 0 and from 1
+pub tabulate-shift : {A : Type 0} (n : ℕ) (f : ℕ → A) (i : ℕ) → tabulate n (λ k. f (suc k)) i ≡ tabulate n f (suc i)
+unfolding tabulate
+tabulate-shift zero f i = refl
+tabulate-shift {A} (suc n) f i = ap (λ (xs : List A). f (suc i) ∷ xs) (tabulate-shift n f (suc i))
 
 pub places-length : (w : ℕ) (xs : List ℕ) → length (places w xs) ≡ w
 unfolding places

@@ -48,6 +48,26 @@ pub or-right : (a b : Bool) → b ≡ true → a || b ≡ true
 or-right true b e = refl
 or-right false b e = e
 
+pub or-left-false : (a b : Bool) → a || b ≡ false → a ≡ false
+or-left-false true b e = e
+or-left-false false b e = refl
+
+pub or-right-false : (a b : Bool) → a || b ≡ false → b ≡ false
+or-right-false true b e = absurd (true≢false e)
+or-right-false false b e = e
+
+pub or-false : (a : Bool) → a || false ≡ a
+or-false true = refl
+or-false false = refl
+
+pub and-true : (a : Bool) → a && true ≡ a
+and-true true = refl
+and-true false = refl
+
+pub and-right-false : (a b : Bool) → b ≡ false → a && b ≡ false
+and-right-false true b e = e
+and-right-false false b e = refl
+
 pub imp-use : (a b : Bool) → a ⇒ b ≡ true → a ≡ true → b ≡ true
 imp-use true b e p = e
 imp-use false b e p = absurd (false≢true p)
@@ -101,6 +121,9 @@ any-make (suc n) f k l e = go (any-make n f k) (below-suc l)
     go : (k < n → f k ≡ true → anyBelow n f ≡ true) → (k ≡ n) ⊎ (k < n) → f n || anyBelow n f ≡ true
     go ih (inl q) = rw (subst (λ (x : ℕ). f x ≡ true) q e)
     go ih (inr l′) = or-right (f n) (anyBelow n f) (ih l′ e)
+
+pub any-false : (n : ℕ) (f : ℕ → Bool) → ((k : ℕ) → k < n → f k ≡ false) → anyBelow n f ≡ false
+any-false n f h = is-false (anyBelow n f) (λ e. let w = any-use n f e in not-both (f (w .0)) (w .2) (h (w .0) (w .1)))
 
 pub any-cong : (n : ℕ) (f g : ℕ → Bool) → ((k : ℕ) → k < n → f k ≡ g k) → anyBelow n f ≡ anyBelow n g
 unfolding anyBelow

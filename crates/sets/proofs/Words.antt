@@ -1,18 +1,20 @@
 -- What the operations of machine words do to sets: `>>`, `<<`, `|`, `&`, `& !`, and the trailing zeros. At every width w. Assumes nothing.
 use Prim.Native.Nat.{ℕ, zero, suc, _+_, _-_, _*_, _/_, _%_, _^_, _<_, _≤_}
 use mathlib.Core.Path.{_≡_, refl, sym, ap, _∙_}
-use mathlib.Core.Bool.{Bool, _&&_, _||_, not}
+use mathlib.Core.Bool.{Bool, true, _&&_, _||_, not}
+use mathlib.Core.Logic.{_⊎_, inl, inr}
 use native.Mathlib.Omega.{arith}
 use native.Mathlib.Decide.{ℕ-discrete}
 use native.Mathlib.Numerals.{add-one}
 use lib.Bits.{bitAnd, bitOr, or-lt, and-lt}
 use lib.Count.{trailingZeros}
-use lib.Dec.{eqb}
+use lib.Dec.{leb, eqb}
 use lib.Pow.{pow-lt, pow-pos}
-use borrow.Author.Tests.{eq-eqb, ne-eqb}
+use borrow.Author.Tests.{le-leb, lt-leb, eq-eqb, ne-eqb}
 use Rattle.sets.specs.Bit.{bit, isSet, has, setOf, lowest}
 use Rattle.sets.proofs.Bits.{bit-one, bit-other, shl-one, shr-and-one}
-use Rattle.sets.proofs.Members.{isSet-and, isSet-or, isSet-less, isSet-empty, isSet-setOf, setOf-lt, setOf-cong, is-setOf}
+use Rattle.sets.proofs.Counting.{lt-or-le}
+use Rattle.sets.proofs.Members.{isSet-and, isSet-or, isSet-less, isSet-empty, isSet-above, isSet-full, isSet-small, isSet-setOf, setOf-lt, setOf-cong, is-setOf}
 use Rattle.sets.proofs.Lowest.{trailing, lowest-unique}
 
 -- ---- a number in a set
@@ -43,6 +45,34 @@ word-only w (suc i) n l =
 
 pub word-nobody : (w i : ℕ) → ((k : ℕ) → k < w → suc k ≡ i → ⊥) → 0 ≡ only w i
 word-nobody w i h = is-setOf w 0 (λ k. eqb k i) (pow-pos w) (λ k lk. isSet-empty k ∙ sym (ne-eqb (suc k) i (h k lk)))
+
+-- ---- the first numbers
+
+-- `1 << n` is not 0
+pub word-one : (w n : ℕ) → n < w → 1 ≤ (1 * 2 ^ n) % 2 ^ w
+word-one w n l = omega (arith, shl-one w n l, pow-pos n)
+
+-- `(1 << n) - 1`
+pub word-first : (w n : ℕ) → n < w → (1 * 2 ^ n) % 2 ^ w - 1 ≡ setOf w (λ k. leb k n)
+word-first w n l =
+    ap (λ (x : ℕ). x - 1) (shl-one w n l)
+    ∙ is-setOf w (2 ^ n - 1) (λ k. leb k n) (omega (arith, pow-lt l)) (λ k lk. go k (lt-or-le k n))
+  where
+    go : (k : ℕ) → (k < n) ⊎ (n ≤ k) → isSet (2 ^ n - 1) k ≡ leb (suc k) n
+    go k (inl q) = isSet-full n k q ∙ sym (le-leb (suc k) n q)
+    go k (inr q) = isSet-above n (2 ^ n - 1) k (omega (arith, pow-pos n)) q ∙ sym (lt-leb (suc k) n (omega arith))
+
+-- all of them
+pub word-all : (w n : ℕ) → w ≤ n → 2 ^ w - 1 ≡ setOf w (λ k. leb k n)
+word-all w n l =
+    is-setOf w (2 ^ w - 1) (λ k. leb k n) (omega (arith, pow-pos w)) (λ k lk. isSet-full w k lk ∙ sym (le-leb (suc k) n (omega arith)))
+
+-- where there are no more than w, they are all of them
+pub first-all : (w n : ℕ) → n ≤ w → setOf w (λ k. leb k n) ≡ setOf n (λ k. true)
+first-all w n l =
+    is-setOf n (setOf w (λ k. leb k n)) (λ k. true)
+    (isSet-small w n (setOf w (λ k. leb k n)) l (setOf-lt w (λ k. leb k n)) (λ k h lk. isSet-setOf w (λ k. leb k n) k lk ∙ lt-leb (suc k) n (omega arith)))
+    (λ k lk. isSet-setOf w (λ k. leb k n) k (omega arith) ∙ le-leb (suc k) n lk)
 
 -- ---- two sets
 
