@@ -2,8 +2,8 @@
 -- modules by name, and this one comes first: the first error that a wrong definition meets stands here. Assumes nothing.
 use Prim.Native.Nat.{ℕ, zero, suc, _+_}
 use mathlib.Core.Path.{_≡_, refl}
-use mathlib.Core.Bool.{true, false}
-use mathlib.Core.List.{[], _∷_}
+use mathlib.Core.Bool.{Bool, true, false, cond}
+use mathlib.Core.List.{List, [], _∷_}
 use native.Mathlib.Omega.{arith}
 use Rattle.sets.specs.Count.{allBelow, anyBelow, count}
 use Rattle.sets.specs.Bit.{bit, isSet, has, setOf, each, any, size}
@@ -11,7 +11,7 @@ use Rattle.sets.specs.Largest.{largestBelow, largest}
 use Rattle.sets.specs.Lists.{tabulate}
 use Rattle.rule.specs.Sheet.{amount, Sheet}
 use Rattle.rule.specs.Demand.{surplusAtLeast, best, Demand, demand, demands, wants, nth}
-use Rattle.rule.specs.Excess.{bidders, crowded, inExcess, inPositiveExcess, excessDemand, positiveExcessDemand, excessSupply, positive}
+use Rattle.rule.specs.Excess.{bidders, overdemanded, weaklyUnderdemanded, crowded, inExcess, inPositiveExcess, excessDemand, positiveExcessDemand, excessSupply, positive}
 use Rattle.rule.specs.Round.{raise, lower, closed, roundFalling, round, move, roundAt, after, opening, path, mostRounds}
 use Rattle.rule.specs.Assignment.{option, holders, isAssignment, fits, Ahead, over-null}
 use Rattle.rule.specs.Equilibrium.{Below, greatest}
@@ -19,7 +19,7 @@ use Rattle.rule.specs.Closing.{roundOf, largestRise}
 
 -- the definitions that the cases compute with
 computing : Unit {0}
-unfolding allBelow anyBelow count bit isSet has setOf each any size largestBelow largest tabulate amount surplusAtLeast best demand demands wants nth bidders crowded inExcess inPositiveExcess excessDemand positiveExcessDemand excessSupply positive raise lower roundFalling round move roundAt after opening path mostRounds option holders isAssignment fits greatest
+unfolding allBelow anyBelow count bit isSet has setOf each any size largestBelow largest tabulate amount surplusAtLeast best demand demands wants nth bidders overdemanded weaklyUnderdemanded crowded inExcess inPositiveExcess excessDemand positiveExcessDemand excessSupply positive raise lower roundFalling round move roundAt after opening path mostRounds option holders isAssignment fits greatest
 computing = tt
 
 -- a demand of these items alone, and one of null beside them
@@ -50,6 +50,52 @@ null-outside = refl
 pub both-rise : excessDemand 2 (only 3 ∷ only 3 ∷ only 1 ∷ []) ≡ 3
 unfolding computing
 both-rise = refl
+
+-- the sets below n that pass the test, the last first
+abbrev passing : ℕ → (ℕ → Bool) → List ℕ
+passing zero f = []
+passing (suc n) f = let rest : List ℕ = passing n f in cond (f n) (n ∷ rest) rest
+
+-- ---- overdemanded and weakly underdemanded sets
+
+-- K4 at (3, 3): two bidders, who demand both of two items, are no more than the items; but they are more than either of them
+pub both-under : passing 4 (weaklyUnderdemanded 2 3 (only 3 ∷ only 3 ∷ [])) ≡ 3 ∷ []
+unfolding computing
+both-under = refl
+
+-- K6 at its close: two bidders who demand the one item, and null as well, do not overdemand it
+pub null-not-over : passing 2 (overdemanded 1 (orNull 1 ∷ orNull 1 ∷ [])) ≡ []
+unfolding computing
+null-not-over = refl
+
+-- who demanded nothing, as no bidder does at prices and no report may, would overdemand the empty set
+pub nothing-over : passing 2 (overdemanded 1 (only 0 ∷ [])) ≡ 0 ∷ []
+unfolding computing
+nothing-over = refl
+
+-- nobody demands anything in the empty set, which is no more than it has items: it is not meant
+pub empty-not-under : weaklyUnderdemanded 1 1 (only 1 ∷ []) 0 ≡ false
+unfolding computing
+empty-not-under = refl
+
+-- who demands null alone demands nothing in an item, which is then weakly underdemanded
+pub null-under : passing 2 (weaklyUnderdemanded 1 1 (orNull 0 ∷ orNull 0 ∷ [])) ≡ 1 ∷ []
+unfolding computing
+null-under = refl
+
+-- K2, which is example 1 of the paper: four items, of price above 0 the first and the last, and demands of {1}, {1}, {1}, {2}, {2}, {4}
+abbrev example-1 : List Demand
+example-1 = only 1 ∷ only 1 ∷ only 1 ∷ only 2 ∷ only 2 ∷ only 8 ∷ []
+
+-- overdemanded are {1, 2, 3, 4}, {1, 3, 4}, {1, 2, 4}, {2, 4}, {1, 4}, {1, 2, 3}, {1, 3}, {1, 2}, {2} and {1}, as the paper has them
+pub overdemanded-are : passing 16 (overdemanded 4 example-1) ≡ 15 ∷ 13 ∷ 11 ∷ 10 ∷ 9 ∷ 7 ∷ 5 ∷ 3 ∷ 2 ∷ 1 ∷ []
+unfolding computing
+overdemanded-are = refl
+
+-- weakly underdemanded is {4} alone: nobody demands item 3, but its price is 0
+pub underdemanded-are : passing 16 (weaklyUnderdemanded 4 9 example-1) ≡ 8 ∷ []
+unfolding computing
+underdemanded-are = refl
 
 -- ---- rounds
 

@@ -9,6 +9,7 @@ pub mod Lower
 pub mod Overdemand
 pub mod Surplus
 pub mod AtPrices
+pub mod EmptySets
 pub mod Moves
 pub mod Furthest
 pub mod Rising

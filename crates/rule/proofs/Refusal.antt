@@ -2,7 +2,7 @@
 -- a count outside 1 to the top, a length that is not exact, an amount above 4,095. Assumes nothing.
 use Prim.Native.Nat.{ℕ, suc, _≤_, _<_}
 use mathlib.Core.Path.{_≡_, refl, ap}
-use mathlib.Core.Bool.{Bool, true, false, _||_, not}
+use mathlib.Core.Bool.{Bool, true, false, not}
 use mathlib.Core.List.{List, [], _∷_}
 use mathlib.Core.Logic.{_⊎_, inl, inr}
 use native.Mathlib.Omega.{arith}
@@ -10,8 +10,9 @@ use lib.Dec.{ltb, eqb}
 use lib.ListN.{length, getD}
 use borrow.Author.Tests.{ltb-true, ltb-false, lt-ltb, le-ltb, eqb-true, eq-eqb, ne-eqb, not-false}
 use Rattle.sets.specs.Count.{anyBelow}
-use Rattle.sets.proofs.Counting.{lt-or-le, any-use, any-make, is-false, not-both}
-use Rattle.rule.specs.Refusal.{Refusal, on, first, outside, badLength, anyOver}
+use Rattle.sets.specs.Bit.{outside}
+use Rattle.sets.proofs.Counting.{lt-or-le, or-left-false, or-right-false, any-use, any-make, is-false, not-both}
+use Rattle.rule.specs.Refusal.{Refusal, on, first, badLength, anyOver}
 
 pub passed : (n : ℕ) (a : Bool) (rest : List Refusal) → a ≡ false → first (on n a ∷ rest) ≡ first rest
 unfolding first
@@ -31,6 +32,12 @@ unfolding first
 none n true rest e = absurd (omega arith)
 none n false rest e = (refl, e)
 
+-- a number that is neither the first of the list nor any later one
+pub other : (n k : ℕ) (a : Bool) (rest : List Refusal) → (n ≡ k → ⊥) → (first rest ≡ k → ⊥) → first (on n a ∷ rest) ≡ k → ⊥
+unfolding first
+other n k true rest ne h e = ne e
+other n k false rest ne h e = h e
+
 -- ---- counts outside 1 to the top
 
 pub under-range : (top x : ℕ) → x < 1 → outside top x ≡ true
@@ -43,11 +50,7 @@ pub range-in : (top x : ℕ) → 1 ≤ x → x ≤ top → outside top x ≡ fal
 range-in top x l h = simp (le-ltb x 1 l, le-ltb top x h)
 
 pub in-range : (top x : ℕ) → outside top x ≡ false → (1 ≤ x) × (x ≤ top)
-in-range top x e = let w = neither (ltb x 1) (ltb top x) e in (ltb-false x 1 (w .0), ltb-false top x (w .1))
-  where
-    neither : (a b : Bool) → a || b ≡ false → (a ≡ false) × (b ≡ false)
-    neither true b e = absurd (not-both true refl e)
-    neither false b e = (refl, e)
+in-range top x e = (ltb-false x 1 (or-left-false (ltb x 1) (ltb top x) e), ltb-false top x (or-right-false (ltb x 1) (ltb top x) e))
 
 -- ---- lengths
 

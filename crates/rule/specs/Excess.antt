@@ -1,9 +1,9 @@
--- The rising set, S~ and the falling set: document 01, "The rule of a round"; section 3 of the paper. The size of a set and the largest set that passes
--- a test are in `sets`. Assumes nothing: these are definitions.
+-- Overdemanded and weakly underdemanded sets, the rising set, S~ and the falling set: document 01, "The rule of a round"; section 3 of the paper, definitions 2
+-- to 6 in its order. The size of a set and the largest set that passes a test are in `sets`. Assumes nothing: these are definitions.
 use Prim.Native.Nat.{ℕ, _^_}
 use mathlib.Core.Bool.{Bool, _&&_, not}
 use mathlib.Core.List.{List}
-use lib.Dec.{ltb}
+use lib.Dec.{leb, ltb}
 use lib.ListN.{length}
 use Rattle.sets.specs.Count.{_⇒_, allBelow, count}
 use Rattle.sets.specs.Bit.{has, setOf, each, any, size}
@@ -26,6 +26,15 @@ somethingIn m t d = any m λ i. wants d i && has t i
 -- nothing outside s is demanded; null (no pan) lies outside every s. The paper's O(S, p)
 abbrev pub nothingOutside : ℕ → ℕ → Demand → Bool
 nothingOutside m s d = each m λ i. wants d i ⇒ has s i
+
+-- s is overdemanded: more bidders than s has items demand nothing outside s. Definition 2 of the paper
+unfoldable pub overdemanded : ℕ → List Demand → ℕ → Bool
+overdemanded m ds s = ltb (size m s) (bidders ds (nothingOutside m s))
+
+-- s is weakly underdemanded: it is not empty, holds only items of `above`, which are those of price above 0, and no more bidders than s has items demand
+-- something in s. Definition 3 of the paper, which admits the empty set; document 01: non-empty is meant
+unfoldable pub weaklyUnderdemanded : ℕ → ℕ → List Demand → ℕ → Bool
+weaklyUnderdemanded m above ds s = nonEmptyPart m s above && leb (bidders ds (somethingIn m s)) (size m s)
 
 -- the demanded items of the set `above` all lie in s. The paper's O⁺(S, p), where `above` are the items of price above 0
 abbrev pub nothingAboveOutside : ℕ → ℕ → ℕ → Demand → Bool

@@ -1,11 +1,12 @@
 -- The numbers that turn a call down, each under its condition, and the first of them in order: document 01, "Turned down by the input" and "Order".
 -- Assumes nothing: these are definitions.
 use Prim.Native.Nat.{ℕ}
-use mathlib.Core.Bool.{Bool, true, false, _||_, not}
+use mathlib.Core.Bool.{Bool, true, false, not}
 use mathlib.Core.List.{List, [], _∷_}
 use lib.Dec.{ltb, eqb}
 use lib.ListN.{length, getD}
 use Rattle.sets.specs.Count.{anyBelow}
+use Rattle.sets.specs.Bit.{outside}
 
 -- a number, and the condition under which it is given
 pub data Refusal : Type 0 where
@@ -15,10 +16,6 @@ pub data Refusal : Type 0 where
 unfoldable pub first : List Refusal → ℕ
 first [] = 0
 first (on n applies ∷ rest) = elim applies [ true ↦ n | false ↦ first rest ]
-
--- a count x outside 1 to the top
-abbrev pub outside : ℕ → ℕ → Bool
-outside top x = ltb x 1 || ltb top x
 
 -- 1: items outside 1 to 32
 unfoldable pub badItems : ℕ → Bool
