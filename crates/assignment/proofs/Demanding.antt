@@ -13,25 +13,13 @@ use lib.Seq.{getD-set-same, getD-set-other}
 use borrow.Author.Count.{below-more}
 use borrow.Author.Tests.{eq-eqb, ne-eqb}
 use Rattle.sets.specs.Bit.{isSet, has, setOf}
-use Rattle.sets.proofs.Counting.{not-both, is-false}
+use Rattle.sets.proofs.Counting.{or-false, and-true, and-right-false, not-both, is-false}
 use Rattle.sets.proofs.Filling.{zeros-at}
 use Rattle.sets.proofs.Members.{isSet-empty, isSet-or, isSet-setOf, has-zero, has-one-more, has-place, empty-has}
 use Rattle.sets.proofs.Taking.{member-lt}
 use Rattle.rule.specs.Demand.{wants}
 use Rattle.assignment.specs.Turn.{asks}
 use Rattle.assignment.proofs.Places.{with-use, with-new}
-
-or-false : (a : Bool) → a || false ≡ a
-or-false true = refl
-or-false false = refl
-
-and-false : (a : Bool) → a && false ≡ false
-and-false true = refl
-and-false false = refl
-
-and-true : (a : Bool) → a && true ≡ a
-and-true true = refl
-and-true false = refl
 
 -- ---- the items of one bidder
 
@@ -75,13 +63,13 @@ module _ {who₀ : List ℕ} {items s : ℕ} {who : List ℕ} {rest : ℕ} (g : 
       at : (p c : ℕ) → p < 33 → Dec (p ≡ i) → isSet (getD (set who i v) p 0) c || (isSet s c && has rest′ p) ≡ isSet (getD who p 0) c || (isSet s c && has rest p)
       at p c lp (no ne) = ap₂ (λ (t : ℕ) (h : Bool). isSet t c || (isSet s c && h)) (getD-set-other who i p v 0 ne) (rest-at p lp false (ne-eqb p i ne) ∙ and-true (has rest p))
       at p c lp (yes e) =
-          ap₂ (λ (a h : Bool). a || (isSet s c && h)) (new p c e) (rest-at p lp true (eq-eqb p i e) ∙ and-false (has rest p))
+          ap₂ (λ (a h : Bool). a || (isSet s c && h)) (new p c e) (rest-at p lp true (eq-eqb p i e) ∙ and-right-false (has rest p) false refl)
           ∙ joins (isSet (getD who p 0) c) (isSet s c) ∙ ap (λ (h : Bool). isSet (getD who p 0) c || (isSet s c && h)) (sym (ap (has rest) e ∙ has-place rest i (λ z. omega arith) ∙ on))
 
   -- nothing is left
   pub add-end : rest ≡ 0 → (p c : ℕ) → p < 33 → isSet (getD who p 0) c ≡ isSet (getD who₀ p 0) c || (isSet s c && has items p)
   add-end z p c lp =
-      sym (ap (λ (h : Bool). isSet (getD who p 0) c || (isSet s c && h)) (ap (λ (t : ℕ). has t p) z ∙ empty-has p) ∙ ap (λ (h : Bool). isSet (getD who p 0) c || h) (and-false (isSet s c)) ∙ or-false (isSet (getD who p 0) c))
+      sym (ap (λ (h : Bool). isSet (getD who p 0) c || (isSet s c && h)) (ap (λ (t : ℕ). has t p) z ∙ empty-has p) ∙ ap (λ (h : Bool). isSet (getD who p 0) c || h) (and-right-false (isSet s c) false refl) ∙ or-false (isSet (getD who p 0) c))
       ∙ g .same p c lp
 
 -- ---- the bidders one after the other

@@ -342,7 +342,7 @@ fn options(sets: &[u32; 64], nulls: u64, above: u32, n: usize, start: [u8; 64]) 
     let mut x = start;
     let mut out = [0u8; 64];
     let mut opens = PLACES;
-    let mut later = everyone(n);
+    let mut later = sets::first_bidders(n);
     let mut b: usize = 0;
     while b < n {
         later = sets::without_bidder(later, b + 1);
@@ -352,20 +352,6 @@ fn options(sets: &[u32; 64], nulls: u64, above: u32, n: usize, start: [u8; 64]) 
         b += 1;
     }
     out
-}
-
-// The bidders 1 to n.
-fn everyone(n: usize) -> u64
-    requires { ⌜ n ≤ 64 ⌝ }
-    ensures { λ r. ⌜ r ≡ setOf n (λ j. true) ⌝ }
-{
-    let mut s: u64 = 0;
-    let mut b: usize = 0;
-    while b < n {
-        s = sets::with_bidder(s, b + 1);
-        b += 1;
-    }
-    s
 }
 
 // The item sets of the first n bidders, and the empty set for the others.
@@ -388,23 +374,22 @@ fn complete(sets: &[u32; 64], nulls: u64, above: u32, n: usize) -> matching::Cov
     ensures { λ r. ⌜ Complete n (now (sets .entry)) nulls above (r .found) (r .holder) ⌝ }
 {
     let own = reported(sets, n);
-    let must = sets::other_bidders(everyone(n), nulls);
+    let must = sets::other_bidders(sets::first_bidders(n), nulls);
     matching::cover(&own, must, above)
 }
 
 // The first assignment in order of the reports of 1 to 64 bidders, `above` being the items of price above 0: each bidder's item, or 0 for
 // null. Where no assignment fits, and for more than 64 bidders, zeros.
-pub fn first(sets: &[u32; 64], nulls: u64, above: u32, bidders: u32) -> [u8; 64]
+pub fn first(sets: &[u32; 64], nulls: u64, above: u32, bidders: usize) -> [u8; 64]
     ensures { λ r. ⌜ r ≡ assigned (now (sets .entry)) nulls above bidders ⌝ }
 {
     if 64 < bidders {
         return [0; 64];
     }
-    let n = bidders as usize;
-    let c = complete(sets, nulls, above, n);
+    let c = complete(sets, nulls, above, bidders);
     if !c.found {
         return [0; 64];
     }
     let holder = c.holder;
-    options(sets, nulls, above, n, seats(&holder))
+    options(sets, nulls, above, bidders, seats(&holder))
 }

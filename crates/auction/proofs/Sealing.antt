@@ -38,9 +38,9 @@ module _ (m n : ℕ) (start bids : List ℕ) where
   unfolding sealedOf outcome
   sealed-closed e = ap (λ (y : ℕ). outcome y (sheetOf m n start bids)) (sym e)
 
-  number-is : sealedOf m n start bids .refusal ≡ sealedRefusal m n start bids
+  pub sealed-number : sealedOf m n start bids .refusal ≡ sealedRefusal m n start bids
   unfolding sealedOf outcome refused closed
-  number-is = go (sealedRefusal m n start bids)
+  sealed-number = go (sealedRefusal m n start bids)
     where
       go : (x : ℕ) → outcome x (sheetOf m n start bids) .refusal ≡ x
       go zero = refl
@@ -65,8 +65,12 @@ promise s e = by (ready s e .closing)
 -- an outcome without a number promises all that demand 3 asks of its sheet
 pub sealed-promised : (m n : ℕ) (start bids : List ℕ) (r : Closing) → r ≡ sealedOf m n start bids → r .refusal ≡ 0 → Promised (sheetOf m n start bids) r
 sealed-promised m n start bids r e z =
-    let none : sealedRefusal m n start bids ≡ 0 = sym (number-is m n start bids) ∙ sym (ap (λ (x : Closing). x .refusal) e) ∙ z in
+    let none : sealedRefusal m n start bids ≡ 0 = sym (sealed-number m n start bids) ∙ sym (ap (λ (x : Closing). x .refusal) e) ∙ z in
     subst (λ (x : Closing). Promised (sheetOf m n start bids) x) (sealed-closed m n start bids none ∙ sym e) (promise (sheetOf m n start bids) (accepted-within m n start bids none .1))
+
+-- and so does that of a sheet which no number turns down
+pub accepted-promised : (m n : ℕ) (start bids : List ℕ) → sealedRefusal m n start bids ≡ 0 → Promised (sheetOf m n start bids) (sealedOf m n start bids)
+accepted-promised m n start bids e = sealed-promised m n start bids (sealedOf m n start bids) refl (sealed-number m n start bids ∙ e)
 
 -- ---- the code's steps
 

@@ -96,12 +96,6 @@ fn demands_at(prices: &[u16; 32], bids: &[u16], items: usize, bidders: usize) ->
 
 // ---- the close, without its rounds
 
-fn wide(x: u16) -> u32
-    ensures { λ r. ⌜ r ≡ x ⌝ }
-{
-    x as u32
-}
-
 // The most that a price is over the other at its place.
 fn furthest(a: &[u16; 32], b: &[u16; 32]) -> u32
     ensures { λ r. ⌜ r ≡ greatest 32 (λ i. amount (now (a .entry)) i - amount (now (b .entry)) i) ⌝ }
@@ -112,7 +106,7 @@ fn furthest(a: &[u16; 32], b: &[u16; 32]) -> u32
         most = prices::larger(most, prices::over(a[i], b[i]));
         i += 1;
     }
-    wide(most)
+    prices::wide(most)
 }
 
 // The rounds to the close, and the closing prices.
@@ -154,13 +148,11 @@ pub struct Closing {
 }
 
 // The sealed auction: starting prices, one for each item, and bids, bidder after bidder.
-pub fn sealed(items: u32, bidders: u32, start: &[u16], bids: &[u16]) -> Closing
+pub fn sealed(items: usize, bidders: usize, start: &[u16], bids: &[u16]) -> Closing
     ensures outcome { λ r. ⌜ r ≡ sealedOf items bidders (now (start .entry)) (now (bids .entry)) ⌝ }
     ensures promised { λ r. ⌜ (r .refusal ≡ 0 → Promised (sheetOf items bidders (now (start .entry)) (now (bids .entry))) r) ⌝ }
 {
-    let m = items as usize;
-    let n = bidders as usize;
-    let why = bids::refusal(m, n, start, bids);
+    let why = bids::refusal(items, bidders, start, bids);
     if why != 0 {
         return Closing {
             refusal: why,
@@ -170,9 +162,9 @@ pub fn sealed(items: u32, bidders: u32, start: &[u16], bids: &[u16]) -> Closing
             assignment: [0; 64],
         };
     }
-    let path = rounds(start, bids, m, n);
+    let path = rounds(start, bids, items, bidders);
     let last = path.prices;
-    let d = demands_at(&last, bids, m, n);
+    let d = demands_at(&last, bids, items, bidders);
     let names = assignment::first(&d.sets, d.nulls, round::positive(&last), bidders);
     Closing {
         refusal: 0,

@@ -1,4 +1,5 @@
 pub mod Lent
 pub mod Limits
+pub mod Rows
 pub mod Showing
 pub mod Fitting

@@ -7,8 +7,9 @@ use lib.ListN.{length}
 use Rattle.rule.specs.Refusal.{badItems, badBidders, badLength, badBidder}
 use Rattle.rule.proofs.Refusal.{passed, none, first-nil, in-range, range-in, exact, exact-is}
 use Rattle.bids.specs.Lent.{lineOf}
-use Rattle.bids.specs.Line.{lineRefusal, shown, lineShown}
+use Rattle.bids.specs.Line.{rowShown, rowStart, lineRefusal, shown, lineShown, lineStart}
 use Rattle.bids.proofs.Lent.{line-inside}
+use Rattle.bids.proofs.Rows.{row-is, start-is}
 
 module _ (m n b : ℕ) (bids : List ℕ) where
   -- what holds where no number turns the asking down
@@ -34,23 +35,39 @@ module _ (m n b : ℕ) (bids : List ℕ) where
         inside = line-inside m n (b - 1) (length bids) (exact-is bids (n * m) (r .0)) (omega (arith, g .0, g .1));
       }
 
-  pub line-none : (why : ℕ) → why ≡ lineRefusal m n b bids → (why ≡ 0 → ⊥) → [] ≡ lineShown m n b bids
-  unfolding lineShown shown
-  line-none why e ne = go why ne ∙ ap (λ (y : ℕ). shown y (lineOf m bids (b - 1))) e
-    where
-      go : (x : ℕ) → (x ≡ 0 → ⊥) → [] ≡ shown x (lineOf m bids (b - 1))
-      go zero h = absurd (h refl)
-      go (suc k) h = refl
+  -- a part that stands at a place of the bids is the line that is shown
+  pub record Shown (part : List ℕ) (at : ℕ) : Type 0 where
+    pub shown : part ≡ lineShown m n b bids
+    pub start : lineStart m n b bids ≡ at
 
-  pub line-is : lineRefusal m n b bids ≡ 0 → lineOf m bids (b - 1) ≡ lineShown m n b bids
+  pub line-none : (why : ℕ) → why ≡ lineRefusal m n b bids → (why ≡ 0 → ⊥) → Shown [] 0
+  unfolding lineShown lineStart shown
+  line-none why e ne = go why e ne
+    where
+      go : (x : ℕ) → x ≡ lineRefusal m n b bids → (x ≡ 0 → ⊥) → Shown [] 0
+      go zero q h = absurd (h refl)
+      go (suc k) q h =
+          record { shown = ap (λ (y : ℕ). shown y (lineOf m bids (b - 1))) q; start = ap (λ (y : ℕ). elim y [ zero ↦ (b - 1) * m | suc why ↦ 0 ]) (sym q) }
+
+  pub line-is : lineRefusal m n b bids ≡ 0 → Shown (rowShown m (b - 1) bids) (rowStart m (b - 1) bids)
+  unfolding lineShown lineStart shown
+  line-is e =
+      let a = asked e in
+      let wide : m ≤ 64 = omega (arith, a .max-items) in
+      record {
+        shown = row-is m (b - 1) bids wide (a .inside) ∙ ap (λ (y : ℕ). shown y (lineOf m bids (b - 1))) (sym e);
+        start = ap (λ (y : ℕ). elim y [ zero ↦ (b - 1) * m | suc why ↦ 0 ]) e ∙ sym (start-is m (b - 1) bids wide (a .inside));
+      }
+
+  pub line-of : lineRefusal m n b bids ≡ 0 → lineShown m n b bids ≡ lineOf m bids (b - 1)
   unfolding lineShown shown
-  line-is e = ap (λ (y : ℕ). shown y (lineOf m bids (b - 1))) (sym e)
+  line-of e = ap (λ (y : ℕ). shown y (lineOf m bids (b - 1))) e
 
 -- the line of a bidder among n, counted from 0
 pub shown-at : (m n b : ℕ) (bids : List ℕ) → 1 ≤ m → m ≤ 32 → n ≤ 64 → length bids ≡ n * m → b < n → lineShown m n (b + 1) bids ≡ lineOf m bids b
 unfolding lineRefusal badItems badBidders badBidder
 shown-at m n b bids some most max long l =
-    sym (line-is m n (b + 1) bids accepted) ∙ (let e : b + 1 - 1 ≡ b = omega arith in ap (lineOf m bids) e)
+    line-of m n (b + 1) bids accepted ∙ (let e : b + 1 - 1 ≡ b = omega arith in ap (lineOf m bids) e)
   where
     accepted : lineRefusal m n (b + 1) bids ≡ 0
     accepted =

@@ -1,21 +1,8 @@
 // The lent numbers of a sheet: what turns them down, and a bidder's line of the bids.
 ghost use mathlib.Core.Path.{_≡_};
-ghost use Prim.Native.Nat.{_+_, _*_, _≤_, _<_};
-ghost use lib.ListN.{length};
-ghost use Rattle.rule.specs.Refusal.{outside};
-ghost use Rattle.bids.specs.Lent.{lineOf};
+ghost use Prim.Native.Nat.{_*_, _≤_};
 ghost use Rattle.bids.specs.Refusal.{sealedRefusal};
-ghost use Rattle.bids.specs.Line.{lineRefusal, lineShown};
-
-// Whether a count is outside 1 to the most there may be.
-fn outside(count: usize, most: usize) -> bool
-    ensures { λ r. ⌜ r ≡ outside most count ⌝ }
-{
-    if count < 1 {
-        return true;
-    }
-    most < count
-}
+ghost use Rattle.bids.specs.Line.{rowShown, rowStart, lineRefusal, lineShown, lineStart, startsAt};
 
 // How many bids there are.
 fn bid_count(items: usize, bidders: usize) -> usize
@@ -29,10 +16,10 @@ fn bid_count(items: usize, bidders: usize) -> usize
 pub fn refusal(items: usize, bidders: usize, start: &[u16], bids: &[u16]) -> u8
     ensures { λ r. ⌜ r ≡ sealedRefusal items bidders (now (start .entry)) (now (bids .entry)) ⌝ }
 {
-    if outside(items, 32) {
+    if sets::outside(32, items) {
         return 1;
     }
-    if outside(bidders, 64) {
+    if sets::outside(64, bidders) {
         return 2;
     }
     if start.len() != items {
@@ -54,37 +41,42 @@ pub fn refusal(items: usize, bidders: usize, start: &[u16], bids: &[u16]) -> u8
 pub fn line_refusal(bids: &[u16], items: usize, bidders: usize, bidder: usize) -> u8
     ensures { λ r. ⌜ r ≡ lineRefusal items bidders bidder (now (bids .entry)) ⌝ }
 {
-    if outside(items, 32) {
+    if sets::outside(32, items) {
         return 1;
     }
-    if outside(bidders, 64) {
+    if sets::outside(64, bidders) {
         return 2;
     }
     if bids.len() != bid_count(items, bidders) {
         return 3;
     }
-    if outside(bidder, bidders) {
+    if sets::outside(bidders, bidder) {
         return 7;
     }
     0
 }
 
-// The bids of the bidder at place b.
-fn row(bids: &[u16], items: usize, b: usize) -> &[u16]
-    requires { ⌜ (items ≤ 32) × (b < 64) × (b * items + items ≤ length (now bids)) ⌝ }
-    ensures { λ r. ⌜ now r ≡ lineOf items (now (bids .entry)) b ⌝ }
+// Row b, counted from 0, of a table of numbers with at most 64 columns: that part itself, or one of length 0 where there is no such row.
+pub fn row(table: &[u16], columns: usize, b: u16) -> &[u16]
+    ensures { λ r. ⌜ (now r ≡ rowShown columns b (now (table .entry))) × startsAt (rowStart columns b (now (table .entry))) (table .entry) r ⌝ }
 {
-    let start = b * items;
-    let end = start + items;
-    &bids[start..end]
+    if 64 < columns {
+        return &table[..0];
+    }
+    let start = (b as usize) * columns;
+    let end = start + columns;
+    if table.len() < end {
+        return &table[..0];
+    }
+    &table[start..end]
 }
 
 // A bidder's line: the part of the bids that is theirs, of length 0 where the call is turned down.
 pub fn line(bids: &[u16], items: usize, bidders: usize, bidder: usize) -> &[u16]
-    ensures { λ r. ⌜ now r ≡ lineShown items bidders bidder (now (bids .entry)) ⌝ }
+    ensures { λ r. ⌜ (now r ≡ lineShown items bidders bidder (now (bids .entry))) × startsAt (lineStart items bidders bidder (now (bids .entry))) (bids .entry) r ⌝ }
 {
     if line_refusal(bids, items, bidders, bidder) != 0 {
         return &bids[..0];
     }
-    row(bids, items, bidder - 1)
+    row(bids, items, (bidder - 1) as u16)
 }

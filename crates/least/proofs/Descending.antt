@@ -1,5 +1,5 @@
 -- The search among the items that are held, in lists, from what keeps their prices up from outside. THEORY.md 2.13. Assumes nothing.
-use Prim.Native.Nat.{ℕ, zero, suc, _+_, _-_, _*_, _≤_, _<_}
+use Prim.Native.Nat.{ℕ, zero, suc, _-_, _≤_, _<_}
 use mathlib.Core.Path.{_≡_, refl, _∙_, subst}
 use mathlib.Core.List.{List}
 use mathlib.Core.Logic.{inl, inr}
@@ -7,7 +7,7 @@ use native.Mathlib.Omega.{arith}
 use native.Mathlib.Decide.{ℕ-discrete}
 use lib.ListN.{length, getD, replicate}
 use Rattle.rule.specs.Sheet.{amount}
-use Rattle.bids.specs.Lent.{lineOf}
+use Rattle.bids.specs.Line.{rowShown}
 use Rattle.least.specs.Searching.{lineAt, Item, Relaxed}
 use Rattle.least.specs.Steps.{Reached, Lowest, Numbered, HeldLeft, IsLeft, Nearest, Enters, Entered, atOption}
 use Rattle.least.specs.Putting.{bidAt, leftCount, Searching}
@@ -16,7 +16,7 @@ use Rattle.least.proofs.Searching.{line-start, reach-start}
 use Rattle.least.proofs.Distances.{option-amount}
 use Rattle.least.proofs.Numbering.{held-numbered, held-left, left-held}
 use Rattle.least.proofs.Entering.{amount-small, start-dist, start-searching, Entry, later, entered-searching, fewer}
-use Rattle.least.proofs.Holders.{Holder, holder-row, holder-long, holder-enters, holder-entry, holder-lowest}
+use Rattle.least.proofs.Holders.{Holder, holder-long, holder-enters, holder-entry, holder-lowest}
 use Rattle.least.proofs.Joining.{everyone-use}
 
 -- where the search stands
@@ -117,29 +117,26 @@ module _ {m : ℕ} {bids prices own best : List ℕ} (d : Descends m bids prices
             demands = d .standing .held .known next b (near .0 .1) own-is .1;
           }
 
-      pub fall-row : b * m + m ≤ length bids
-      fall-row = holder-row holder
-
-      module _ (hers : List ℕ) (eh-line : hers ≡ lineOf m bids b) where
+      module _ (hers : List ℕ) (lent : hers ≡ rowShown m b bids) where
         pub fall-enters : Enters next hers prices dist via left
-        fall-enters = holder-enters holder hers eh-line
+        fall-enters = holder-enters holder hers lent
 
         module _ (dist′ via′ left′ : List ℕ) (u low : ℕ) (e : Entered next hers prices dist via left dist′ via′ left′ u low) where
           entry : Entry m (HeldItem m (amount own)) 0 line prices dist via left (s .mask) (s .turns) next dist′ via′ left′ u
-          entry = holder-entry holder hers eh-line dist′ via′ left′ u low e
+          entry = holder-entry holder hers lent dist′ via′ left′ u low e
 
           pub fall-fewer : leftCount left′ < leftCount left
           fall-fewer = fewer entry
 
           pub fall-nearest : Numbered left′ × Lowest dist′ left′ m low
-          fall-nearest = holder-lowest holder hers eh-line dist′ via′ left′ u low e
+          fall-nearest = holder-lowest holder hers lent dist′ via′ left′ u low e
 
           pub fall-next : (next′ : ℕ) → Nearest m 65535 dist′ left′ next′ → Falling m bids prices own best dist′ via′ left′ next′
           fall-next next′ near′ = record { mask = later entry; turns = suc (s .turns); searching = entered-searching entry; flat = flat; nearest = near′ }
             where
               flat : (i : ℕ) → Item m i → amount own i ≡ 0 → amount best i ≡ amount prices i → amount dist′ i ≡ 0
               flat zero x z q = absurd (omega (arith, x .0))
-              flat (suc y) x z q = go (e .reached .done y (omega (arith, x .1, holder-long holder hers eh-line)))
+              flat (suc y) x z q = go (e .reached .done y (omega (arith, x .1, holder-long holder hers lent)))
                 where
                   old : getD dist y 0 ≡ 0
                   old = unfold amount in s .flat (suc y) x z q

@@ -1,5 +1,5 @@
 -- The bidders take their options one after the other: an item's price is what the bidder's surplus leaves of the bid. THEORY.md 2.13. Assumes nothing.
-use Prim.Native.Nat.{ℕ, zero, suc, _+_, _-_, _≤_, _<_}
+use Prim.Native.Nat.{ℕ, zero, suc, _+_, _*_, _-_, _≤_, _<_}
 use mathlib.Core.Path.{_≡_, refl, sym, ap, _∙_, subst}
 use mathlib.Core.List.{List}
 use mathlib.Core.Logic.{_⊎_, inl, inr}
@@ -13,6 +13,8 @@ use Rattle.sets.proofs.Counting.{below-suc}
 use Rattle.sets.proofs.Filling.{zeros-at}
 use Rattle.rule.specs.Sheet.{amount}
 use Rattle.bids.specs.Lent.{lineOf}
+use Rattle.bids.specs.Line.{rowShown}
+use Rattle.bids.proofs.Rows.{row-is}
 use Rattle.bids.proofs.Lent.{line-inside, line-length}
 use Rattle.least.specs.Putting.{bidAt}
 use Rattle.least.specs.Transposing.{Options, FreeOrTaken, Given}
@@ -27,7 +29,13 @@ given-none m bids surplus option prices own ep eo =
     }
 
 module _ {m n : ℕ} {bids surplus option : List ℕ} (o : Options m n bids surplus option) (k : ℕ) (lk : k < n) (prices own : List ℕ) (g : Given m bids surplus option k prices own)
-    (line : List ℕ) (el : line ≡ lineOf m bids k) (prices′ own′ : List ℕ) where
+    (line : List ℕ) (lent : line ≡ rowShown m k bids) (prices′ own′ : List ℕ) where
+  inside : k * m + m ≤ length bids
+  inside = line-inside m n k (length bids) (o .fit .long) lk
+
+  el : line ≡ lineOf m bids k
+  el = lent ∙ row-is m k bids (omega (arith, o .fit .max-items)) inside
+
   -- bidder b holds the item at place x, and its price and their surplus make up their bid
   abbrev Gets : ℕ → ℕ → Type 0
   Gets b x = (getD own′ x 0 ≡ suc b) × (getD prices′ x 0 + getD surplus b 0 ≡ bidAt m bids b (suc x))
@@ -133,7 +141,7 @@ module _ {m n : ℕ} {bids surplus option : List ℕ} (o : Options m n bids surp
   given-fits = (omega (arith, len, o .small k lk), omega (arith, len, o .fit .max-items), λ pos. go (getD option k 0) refl pos)
     where
       len : length line ≡ m
-      len = ap length el ∙ line-length m bids k (line-inside m n k (length bids) (o .fit .long) lk)
+      len = ap length el ∙ line-length m bids k inside
 
       go : (i : ℕ) → getD option k 0 ≡ i → 0 < getD option k 0 → getD surplus k 0 ≤ getD line (getD option k 0 - 1) 0
       go zero e pos = absurd (omega (arith, e, pos))

@@ -1,5 +1,5 @@
 -- The nearest item that is left, and who holds it: what entering it asks, and what it gives. THEORY.md 2.12. Assumes nothing.
-use Prim.Native.Nat.{ℕ, suc, _+_, _*_, _≤_, _<_}
+use Prim.Native.Nat.{ℕ, suc, _≤_, _<_}
 use mathlib.Core.Path.{_≡_, sym, ap, _∙_, subst}
 use mathlib.Core.List.{List}
 use native.Mathlib.Omega.{arith}
@@ -7,7 +7,9 @@ use lib.ListN.{length}
 use Rattle.rule.specs.Sheet.{amount}
 use Rattle.rule.proofs.Limits.{amount-null}
 use Rattle.bids.specs.Lent.{lineOf}
+use Rattle.bids.specs.Line.{rowShown}
 use Rattle.bids.proofs.Lent.{line-length}
+use Rattle.bids.proofs.Rows.{row-is}
 use Rattle.bids.specs.Fit.{Small}
 use Rattle.bids.proofs.Fitting.{line-small}
 use Rattle.least.specs.Holding.{Demands}
@@ -25,6 +27,10 @@ bid-small m bids h b i = amount-small (lineOf m bids b) (line-small m bids h b) 
 
 pub bid-null : (m : ℕ) (bids : List ℕ) (b : ℕ) → bidAt m bids b 0 ≡ 0
 bid-null m bids b = amount-null (lineOf m bids b)
+
+-- the row that is lent is the bidder's line
+pub table-row : (m n : ℕ) (bids : List ℕ) → Table m n bids → (b : ℕ) → b < n → rowShown m b bids ≡ lineOf m bids b
+table-row m n bids t b l = row-is m b bids (t .max-items) (t .inside b l)
 
 pub line-long : (m n : ℕ) (bids : List ℕ) → Table m n bids → (b : ℕ) → b < n → length (lineOf m bids b) ≡ m
 line-long m n bids t b l = line-length m bids b (t .inside b l)
@@ -55,10 +61,10 @@ module _ {m n : ℕ} {In : ℕ → Type 0} {top : ℕ} {first : ℕ → ℕ} {bi
   priced : amount prices j ≤ bidAt m bids b j
   priced = pays m (bidAt m bids) (amount prices) b j (bid-null m bids b) (amount-null prices) (h .demands)
 
-  pub holder-row : b * m + m ≤ length bids
-  holder-row = h .table .inside b (h .member)
+  module _ (hers : List ℕ) (lent : hers ≡ rowShown m b bids) where
+    eh : hers ≡ lineOf m bids b
+    eh = lent ∙ table-row m n bids (h .table) b (h .member)
 
-  module _ (hers : List ℕ) (eh : hers ≡ lineOf m bids b) where
     pub holder-long : length hers ≡ m
     holder-long = ap length eh ∙ line-long m n bids (h .table) b (h .member)
 

@@ -1,5 +1,5 @@
 -- Bidder k's search: how it starts, and how the nearest item is entered; and the distance of null. THEORY.md 2.12. Assumes nothing.
-use Prim.Native.Nat.{ℕ, zero, suc, _+_, _-_, _*_, _≤_, _<_, min}
+use Prim.Native.Nat.{ℕ, zero, suc, _-_, _≤_, _<_, min}
 use mathlib.Core.Path.{_≡_, refl, sym, ap, _∙_, subst}
 use mathlib.Core.List.{List}
 use mathlib.Core.Logic.{_⊎_, inl, inr}
@@ -8,6 +8,7 @@ use native.Mathlib.Decide.{ℕ-discrete}
 use lib.ListN.{length, replicate, length-replicate}
 use Rattle.rule.specs.Sheet.{amount}
 use Rattle.bids.specs.Lent.{lineOf}
+use Rattle.bids.specs.Line.{rowShown}
 use Rattle.least.specs.Searching.{lineAt, reachOf, Source, Item}
 use Rattle.least.specs.Steps.{Reached, Lowest, Numbered, IsLeft, Nearest, Enters, Entered, atOption}
 use Rattle.least.specs.Putting.{bidAt, Ready, Unsearched, leftCount, Searching, Seeking}
@@ -15,7 +16,7 @@ use Rattle.least.proofs.Searching.{line-start, reach-start}
 use Rattle.least.proofs.Distances.{option-null, option-item}
 use Rattle.least.proofs.Numbering.{all-numbered, all-left}
 use Rattle.least.proofs.Entering.{amount-item, start-searching, Entry, later, entered-searching, entered-sources, entered-old, entered-new, entered-behind, fewer}
-use Rattle.least.proofs.Holders.{bid-small, line-long, Holder, holder-row, holder-enters, holder-entry, holder-lowest}
+use Rattle.least.proofs.Holders.{bid-small, table-row, line-long, Holder, holder-enters, holder-entry, holder-lowest}
 
 module _ {m k : ℕ} {bids prices own : List ℕ} (r : Ready m k bids prices own) where
   abbrev pub line : ℕ → ℕ → ℕ
@@ -29,17 +30,20 @@ module _ {m k : ℕ} {bids prices own : List ℕ} (r : Ready m k bids prices own
   pub unsearched-long : (dist via left : List ℕ) → Unsearched own dist via left → (length dist ≡ 64) × (length via ≡ 64)
   unsearched-long dist via left z = (ap length (z .far) ∙ length-replicate {A = ℕ} 64 16384, ap length (z .from) ∙ length-replicate {A = ℕ} 64 0)
 
-  pub first-long : (first : List ℕ) → first ≡ lineOf m bids k → length first ≡ m
-  first-long first ef = ap length ef ∙ line-long m (r .bidders) bids (r .table) k (r .member)
+  first-line : (first : List ℕ) → first ≡ rowShown m k bids → first ≡ lineOf m bids k
+  first-line first lent = lent ∙ table-row m (r .bidders) bids (r .table) k (r .member)
 
-  pub first-lowest : (dist₀ via₀ left : List ℕ) → Unsearched own dist₀ via₀ left → (first : List ℕ) → first ≡ lineOf m bids k → (dist : List ℕ) (low : ℕ)
+  pub first-long : (first : List ℕ) → first ≡ rowShown m k bids → length first ≡ m
+  first-long first lent = ap length (first-line first lent) ∙ line-long m (r .bidders) bids (r .table) k (r .member)
+
+  pub first-lowest : (dist₀ via₀ left : List ℕ) → Unsearched own dist₀ via₀ left → (first : List ℕ) → first ≡ rowShown m k bids → (dist : List ℕ) (low : ℕ)
       → Lowest dist left (length first) low → Numbered left × Lowest dist left m low
-  first-lowest dist₀ via₀ left z first ef dist low t =
-      (all-numbered m own left (r .table .max-items) (z .all), subst (λ (n : ℕ). Lowest dist left n low) (first-long first ef) t)
+  first-lowest dist₀ via₀ left z first lent dist low t =
+      (all-numbered m own left (r .table .max-items) (z .all), subst (λ (n : ℕ). Lowest dist left n low) (first-long first lent) t)
 
-  pub seek-start : (dist₀ via₀ left : List ℕ) → Unsearched own dist₀ via₀ left → (first : List ℕ) → first ≡ lineOf m bids k → (dist via : List ℕ)
+  pub seek-start : (dist₀ via₀ left : List ℕ) → Unsearched own dist₀ via₀ left → (first : List ℕ) → first ≡ rowShown m k bids → (dist via : List ℕ)
       → Reached 4095 0 first prices dist₀ via₀ (length first) dist via → (next : ℕ) → Nearest m 4095 dist left next → Seeking m k bids prices own dist via left 4095 0 next
-  seek-start dist₀ via₀ left z first ef dist via t next near =
+  seek-start dist₀ via₀ left z first lent dist via t next near =
       record {
         mask = λ x. 0;
         turns = 0;
@@ -55,15 +59,15 @@ module _ {m k : ℕ} {bids prices own : List ℕ} (r : Ready m k bids prices own
     where
       reached : Reached 4095 0 first prices (replicate 64 16384) (replicate 64 0) m dist via
       reached =
-          subst (λ (n : ℕ). Reached 4095 0 first prices (replicate 64 16384) (replicate 64 0) n dist via) (first-long first ef)
+          subst (λ (n : ℕ). Reached 4095 0 first prices (replicate 64 16384) (replicate 64 0) n dist via) (first-long first lent)
           (subst (λ (v : List ℕ). Reached 4095 0 first prices (replicate 64 16384) v (length first) dist via) (z .from)
           (subst (λ (d : List ℕ). Reached 4095 0 first prices d via₀ (length first) dist via) (z .far) t))
 
       searching : Searching m (Item m) 4095 line prices dist via left (λ x. 0) 0
       searching =
           start-searching m (Item m) (λ x i. i) 4095 (omega arith) line prices (r .small) (r .table .max-items) first
-          (λ x. line-start (bidAt m bids) (amount own) (bidAt m bids k) x ∙ ap (λ (l : List ℕ). amount l x) (sym ef))
-          (λ x i. omega (arith, ap (λ (l : List ℕ). amount l x) ef, bid-small m bids (r .table .small) k x)) dist via left reached
+          (λ x. line-start (bidAt m bids) (amount own) (bidAt m bids k) x ∙ ap (λ (l : List ℕ). amount l x) (sym (first-line first lent)))
+          (λ x i. omega (arith, ap (λ (l : List ℕ). amount l x) (first-line first lent), bid-small m bids (r .table .small) k x)) dist via left reached
           (all-numbered m own left (r .table .max-items) (z .all)) (z .all .long) (all-left m own left (r .table .max-items) (z .all)) (λ x i o. i)
 
       far : (y : ℕ) → Source (λ x. 0) y → 4095 ≤ reach dist y
@@ -119,22 +123,19 @@ module _ {m k : ℕ} {bids prices own : List ℕ} (r : Ready m k bids prices own
             demands = r .held .known next b next-small own-is .1;
           }
 
-      pub row-inside : b * m + m ≤ length bids
-      row-inside = holder-row holder
-
-      module _ (hers : List ℕ) (eh-line : hers ≡ lineOf m bids b) where
+      module _ (hers : List ℕ) (lent : hers ≡ rowShown m b bids) where
         pub enters : Enters next hers prices dist via left
-        enters = holder-enters holder hers eh-line
+        enters = holder-enters holder hers lent
 
         module _ (dist′ via′ left′ : List ℕ) (u low : ℕ) (e : Entered next hers prices dist via left dist′ via′ left′ u low) where
           entry : Entry m (Item m) 4095 line prices dist via left (s .mask) (s .turns) next dist′ via′ left′ u
-          entry = holder-entry holder hers eh-line dist′ via′ left′ u low e
+          entry = holder-entry holder hers lent dist′ via′ left′ u low e
 
           pub seek-fewer : leftCount left′ < leftCount left
           seek-fewer = fewer entry
 
           pub seek-lowest : Numbered left′ × Lowest dist′ left′ m low
-          seek-lowest = holder-lowest holder hers eh-line dist′ via′ left′ u low e
+          seek-lowest = holder-lowest holder hers lent dist′ via′ left′ u low e
 
           pub seek-next : (null′ last′ next′ : ℕ) → null′ ≡ min u null → (null′ ≡ null → last′ ≡ last) × ((null′ ≡ null → ⊥) → last′ ≡ next) → Nearest m null′ dist′ left′ next′
               → Seeking m k bids prices own dist′ via′ left′ null′ last′ next′

@@ -33,16 +33,6 @@ fn if_same(a: u16, b: u16, then: u16, other: u16) -> u16
     if a == b { then } else { other }
 }
 
-// The line of the bidder at place b.
-fn row(bids: &[u16], items: usize, b: usize) -> &[u16]
-    requires { ⌜ (items ≤ 64) × (b < 64) × (b * items + items ≤ length (now bids)) ⌝ }
-    ensures { λ r. ⌜ now r ≡ lineOf items (now (bids .entry)) b ⌝ }
-{
-    let start = b * items;
-    let end = start + items;
-    &bids[start..end]
-}
-
 // ---- distances
 
 // The distances of the items, and from where each was reached, after somebody with this line and reach u was entered at item j: an item is as much nearer as it
@@ -166,11 +156,19 @@ fn search(
 {
     let mut null: u16 = 4095;
     let mut last: u16 = 0;
-    let low = relax(dist, via, left, prices, row(bids, items, k), 4095, 0);
+    let low = relax(
+        dist,
+        via,
+        left,
+        prices,
+        bids::row(bids, items, k as u16),
+        4095,
+        0,
+    );
     let mut next = nearest(dist, left, items, low, null);
     let mut h = at(own, next, 0);
     while h != 0 {
-        let line = row(bids, items, (h - 1) as usize);
+        let line = bids::row(bids, items, h - 1);
         let reach = enter(dist, via, left, prices, line, next);
         let nearer = prices::smaller(reach.u, null);
         last = if_same(nearer, null, last, next);
@@ -352,7 +350,14 @@ fn give_all(
 {
     let mut b: usize = 0;
     while b < bidders {
-        give(prices, own, row(bids, items, b), option[b], surplus[b], b);
+        give(
+            prices,
+            own,
+            bids::row(bids, items, b as u16),
+            option[b],
+            surplus[b],
+            b,
+        );
         b += 1;
     }
 }
@@ -452,7 +457,11 @@ fn offers(best: &mut [u16; 64], seats: u64, bids: &[u16], items: usize, bidders:
 {
     let mut b: usize = 0;
     while b < bidders {
-        offer_unless(best, row(bids, items, b), sets::has_bidder(seats, b + 1));
+        offer_unless(
+            best,
+            bids::row(bids, items, b as u16),
+            sets::has_bidder(seats, b + 1),
+        );
         b += 1;
     }
 }
@@ -488,7 +497,7 @@ fn descend(
     let mut next = nearest(dist, left, items, low, 65535);
     while next != 0 {
         let h = at(own, next, 0);
-        let line = row(bids, items, (h - 1) as usize);
+        let line = bids::row(bids, items, h - 1);
         let reach = enter(dist, via, left, prices, line, next);
         next = nearest(dist, left, items, reach.low, 65535);
     }

@@ -1,6 +1,8 @@
 -- `assignment::options` meets its contract. The options so far fill their places, can be completed, and begin the names. Assumes nothing.
 use Prim.Native.Nat.{_-_}
+use mathlib.Core.Path.{_∙_}
 use borrow.Author.Needs.{needs}
+use Rattle.sets.proofs.Words.{first-all}
 use Rattle.assignment.specs.Turn.{Demanded}
 use Rattle.assignment.proofs.Assigning.{Going, going-start, going-turn, going-next, going-end}
 use Rattle.assignment.proofs.options.Statement.{statement}
@@ -18,14 +20,14 @@ demands-requires c κs = search needs
 wanted-by-requires : tie.Need-wanted-by-requires Inv-loop μ-loop
 wanted-by-requires c κs = search needs
 
-everyone-requires : tie.Need-everyone-requires Inv-loop μ-loop
-everyone-requires c κs = search needs
+first-bidders-requires : tie.Need-first-bidders-requires Inv-loop μ-loop
+first-bidders-requires c κs = search needs
 
 loop-holds : tie.Need-loop-holds Inv-loop μ-loop
 loop-holds c =
     let a = c .before .before .before .args in
     let pre = c .before .before .before .pre in
-    going-start (a .n) (a .sets .now) (a .nulls) (a .above) (a .start) (pre .0) (pre .1) (pre .2) (c .everyone .result) (c .everyone .ensures)
+    going-start (a .n) (a .sets .now) (a .nulls) (a .above) (a .start) (pre .0) (pre .1) (pre .2) (c .first-bidders .result) (c .first-bidders .ensures ∙ first-all 64 (a .n) (pre .0))
 
 add-without-bidder : tie.Need-add-without-bidder Inv-loop μ-loop
 add-without-bidder c = search needs
@@ -34,7 +36,7 @@ without-bidder-requires : tie.Need-without-bidder-requires Inv-loop μ-loop
 without-bidder-requires c κs = search needs
 
 -- the demands by bidder and by place
-demanded : (c : tie.After-everyone Inv-loop μ-loop) → Demanded (c .before .before .before .args .n) (c .before .before .before .args .sets .now) (c .before .before .before .args .nulls) (c .before .before .demands .result) (c .before .wanted-by .result)
+demanded : (c : tie.After-first-bidders Inv-loop μ-loop) → Demanded (c .before .before .before .args .n) (c .before .before .before .args .sets .now) (c .before .before .before .args .nulls) (c .before .before .demands .result) (c .before .wanted-by .result)
 demanded c = record { by-bidder = c .before .before .demands .ensures; by-place = c .before .wanted-by .ensures }
 
 option-requires : tie.Need-option-requires Inv-loop μ-loop
@@ -84,7 +86,7 @@ options-spec =
     μ-loop
     demands-requires
     wanted-by-requires
-    everyone-requires
+    first-bidders-requires
     loop-holds
     add-without-bidder
     without-bidder-requires

@@ -27,9 +27,9 @@ demand-of-requires c κs =
     let b = c .before .before .loop .b in
     let lt = c .before .loop-test .taken in
     let line = c .line in (
-      line-short (a .items) (a .bidders) (a .prices .now) (a .bids .now) fit b lt (line .result .now) (line .ensures),
+      line-short (a .items) (a .bidders) (a .prices .now) (a .bids .now) fit b lt (line .result .now) (line .ensures .0),
       c .before .before .before .before .pre .1,
-      line-small (a .items) (a .bidders) (a .prices .now) (a .bids .now) fit b lt (line .result .now) (line .ensures),
+      line-small (a .items) (a .bidders) (a .prices .now) (a .bids .now) fit b lt (line .result .now) (line .ensures .0),
     )
 
 mul-sets : tie.Need-mul-sets Inv-loop μ-loop
@@ -56,7 +56,7 @@ loop-again c =
     let at = c .before .before .before .before .loop in
     let line = c .before .before .line in
     let d = c .before .demand-of in
-    collect-next (a .items) (a .bidders) (a .prices .now) (a .bids .now) (c .before .before .before .before .before .before .pre .0) (at .b) (c .before .before .before .loop-test .taken) (line .result .now) (line .ensures)
+    collect-next (a .items) (a .bidders) (a .prices .now) (a .bids .now) (c .before .before .before .before .before .before .pre .0) (at .b) (c .before .before .before .loop-test .taken) (line .result .now) (line .ensures .0)
     (at .sets) (at .nulls) (at .inv) (d .result .items) (d .ensures .1) (d .result .null) (d .ensures .0) (c .add-bidder .result) (c .add-bidder .ensures)
 
 returns : tie.Need-returns Inv-loop μ-loop

@@ -58,7 +58,7 @@ returns c =
     let a = c .before .before .before .args in
     let at = c .before .before .loop in
     let e : at .i ≡ 32 = omega (arith, at .inv .0, c .before .loop-test .left) in
-    c .wide .ensures ∙ at .inv .1 ∙ ap (λ (k : ℕ). greatest k (λ j. amount (a .a .now) j - amount (a .b .now) j)) e
+    c .wide .ensures .0 ∙ at .inv .1 ∙ ap (λ (k : ℕ). greatest k (λ j. amount (a .a .now) j - amount (a .b .now) j)) e
 
 pub furthest-spec : {M : Type 1} → statement M
 furthest-spec =

@@ -1,5 +1,5 @@
 -- `bids::line` meets its contract. Assumes nothing.
-use mathlib.Core.Path.{sym, _∙_}
+use mathlib.Core.Path.{refl, sym, _∙_}
 use native.Mathlib.Omega.{arith}
 use Rattle.bids.proofs.Showing.{asked, line-none, line-is}
 use borrow.Author.Needs.{needs}
@@ -15,7 +15,8 @@ slice-aggregate-result c = search needs
 returns : tie.Need-returns
 returns c =
     let a = c .before .before .before .before .args in
-    line-none (a .items) (a .bidders) (a .bidder) (a .bids .now) (c .before .before .line-refusal .result) (c .before .before .line-refusal .ensures) (c .before .if1 .taken)
+    let n = line-none (a .items) (a .bidders) (a .bidder) (a .bids .now) (c .before .before .line-refusal .result) (c .before .before .line-refusal .ensures) (c .before .if1 .taken) in
+    (n .shown, (refl, omega (arith, n .start)))
 
 sub-row : tie.Need-sub-row
 sub-row c =
@@ -23,16 +24,20 @@ sub-row c =
     let s = asked (a .items) (a .bidders) (a .bidder) (a .bids .now) (sym (c .before .line-refusal .ensures) ∙ c .if1 .left) in
     omega (arith, s .some)
 
-row-requires : tie.Need-row-requires
-row-requires c κs =
-    let a = c .before .before .before .args in
+cast-row : tie.Need-cast-row
+cast-row c = let a = c .before .before .before .args in
     let s = asked (a .items) (a .bidders) (a .bidder) (a .bids .now) (sym (c .before .line-refusal .ensures) ∙ c .if1 .left) in
-    (s .max-items, omega (arith, s .some, s .most), s .inside)
+    omega (arith, s .some, s .most)
+
+row-requires : tie.Need-row-requires
+row-requires c κs = search needs
 
 returns-2 : tie.Need-returns-2
 returns-2 c =
     let a = c .before .before .before .before .args in
-    c .row .ensures ∙ line-is (a .items) (a .bidders) (a .bidder) (a .bids .now) (sym (c .before .before .line-refusal .ensures) ∙ c .before .if1 .left)
+    let e = sym (c .before .before .line-refusal .ensures) ∙ c .before .if1 .left in
+    let l = line-is (a .items) (a .bidders) (a .bidder) (a .bids .now) e in
+    (c .row .ensures .0 ∙ l .shown, (c .row .ensures .1 .0, omega (arith, c .row .ensures .1 .1, l .start)))
 
 pub line-spec : {M : Type 1} → statement M
 line-spec =
@@ -42,5 +47,6 @@ line-spec =
     slice-aggregate-result
     returns
     sub-row
+    cast-row
     row-requires
     returns-2)

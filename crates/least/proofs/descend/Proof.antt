@@ -4,7 +4,7 @@ use mathlib.Core.Path.{ap, _∙_}
 use native.Mathlib.Omega.{arith}
 use lib.ListN.{length, length-replicate}
 use Rattle.least.specs.Putting.{leftCount}
-use Rattle.least.proofs.Descending.{Falling, fall-lowest, fall-start, fall-small, fall-end, fall-holder, fall-row, fall-enters, fall-fewer, fall-nearest, fall-next}
+use Rattle.least.proofs.Descending.{Falling, fall-lowest, fall-start, fall-small, fall-end, fall-holder, fall-enters, fall-fewer, fall-nearest, fall-next}
 use borrow.Author.Needs.{needs}
 use Rattle.least.proofs.descend.Statement.{statement}
 use Rattle.least.proofs.descend.Tie as tie
@@ -37,36 +37,28 @@ at-requires c κs = fall-small (c .before .before .before .before .before .befor
 sub-row : tie.Need-sub-row Inv-loop μ-loop
 sub-row c = omega (arith, fall-holder (c .before .before .before .before .before .before .before .before .before .before .before .before .pre .0) (c .before .before .loop .inv) (omega (arith, c .before .loop-test .taken)) (c .at .result) (c .at .ensures) .0)
 
-cast-row : tie.Need-cast-row Inv-loop μ-loop
-cast-row c =
-    let low = fall-holder (c .before .before .before .before .before .before .before .before .before .before .before .before .pre .0) (c .before .before .loop .inv) (omega (arith, c .before .loop-test .taken)) (c .at .result) (c .at .ensures) .1 in
-    let most = c .before .before .before .before .before .before .before .before .before .before .before .before .pre .0 .standing .table .max-bidders in
-    search needs
-
 row-requires : tie.Need-row-requires Inv-loop μ-loop
-row-requires c κs =
-    let d = c .before .before .before .before .before .before .before .before .before .before .before .before .pre .0 in
-    (d .standing .table .max-items, omega (arith, fall-holder d (c .before .before .loop .inv) (omega (arith, c .before .loop-test .taken)) (c .at .result) (c .at .ensures) .1, d .standing .table .max-bidders), fall-row d (c .before .before .loop .inv) (omega (arith, c .before .loop-test .taken)) (c .at .result) (c .at .ensures))
+row-requires c κs = search needs
 
 enter-requires : tie.Need-enter-requires Inv-loop μ-loop
-enter-requires c κs = fall-enters (c .before .before .before .before .before .before .before .before .before .before .before .before .before .before .before .before .pre .0) (c .before .before .before .before .before .before .loop .inv) (omega (arith, c .before .before .before .before .before .loop-test .taken)) (c .before .before .before .before .at .result) (c .before .before .before .before .at .ensures) (c .before .before .before .row .result .now) (c .before .before .before .row .ensures)
+enter-requires c κs = fall-enters (c .before .before .before .before .before .before .before .before .before .before .before .before .before .before .before .before .pre .0) (c .before .before .before .before .before .before .loop .inv) (omega (arith, c .before .before .before .before .before .loop-test .taken)) (c .before .before .before .before .at .result) (c .before .before .before .before .at .ensures) (c .before .before .before .row .result .now) (c .before .before .before .row .ensures .0)
 
 nearest-requires-2 : tie.Need-nearest-requires-2 Inv-loop μ-loop
 nearest-requires-2 c κs =
     let d = c .before .before .before .before .before .before .before .before .before .before .before .before .before .before .before .before .before .before .before .pre .0 in
     let e = c .before .before .enter in
-    let low = fall-nearest d (c .before .before .before .before .before .before .before .before .before .loop .inv) (omega (arith, c .before .before .before .before .before .before .before .before .loop-test .taken)) (c .before .before .before .before .before .before .before .at .result) (c .before .before .before .before .before .before .before .at .ensures) (c .before .before .before .before .before .before .row .result .now) (c .before .before .before .before .before .before .row .ensures) (e .last .0) (e .last .1 .0) (e .last .1 .1 .0) (e .result .u) (e .result .low) (e .ensures) in
+    let low = fall-nearest d (c .before .before .before .before .before .before .before .before .before .loop .inv) (omega (arith, c .before .before .before .before .before .before .before .before .loop-test .taken)) (c .before .before .before .before .before .before .before .at .result) (c .before .before .before .before .before .before .before .at .ensures) (c .before .before .before .before .before .before .row .result .now) (c .before .before .before .before .before .before .row .ensures .0) (e .last .0) (e .last .1 .0) (e .last .1 .1 .0) (e .result .u) (e .result .low) (e .ensures) in
     (d .standing .table .max-items, low .0, low .1)
 
 loop-less : tie.Need-loop-less Inv-loop μ-loop
 loop-less c =
     let e = c .before .before .before .enter in
-    fall-fewer (c .before .before .before .before .before .before .before .before .before .before .before .before .before .before .before .before .before .before .before .before .pre .0) (c .before .before .before .before .before .before .before .before .before .before .loop .inv) (omega (arith, c .before .before .before .before .before .before .before .before .before .loop-test .taken)) (c .before .before .before .before .before .before .before .before .at .result) (c .before .before .before .before .before .before .before .before .at .ensures) (c .before .before .before .before .before .before .before .row .result .now) (c .before .before .before .before .before .before .before .row .ensures) (e .last .0) (e .last .1 .0) (e .last .1 .1 .0) (e .result .u) (e .result .low) (e .ensures)
+    fall-fewer (c .before .before .before .before .before .before .before .before .before .before .before .before .before .before .before .before .before .before .before .before .pre .0) (c .before .before .before .before .before .before .before .before .before .before .loop .inv) (omega (arith, c .before .before .before .before .before .before .before .before .before .loop-test .taken)) (c .before .before .before .before .before .before .before .before .at .result) (c .before .before .before .before .before .before .before .before .at .ensures) (c .before .before .before .before .before .before .before .row .result .now) (c .before .before .before .before .before .before .before .row .ensures .0) (e .last .0) (e .last .1 .0) (e .last .1 .1 .0) (e .result .u) (e .result .low) (e .ensures)
 
 loop-again : tie.Need-loop-again Inv-loop μ-loop
 loop-again c =
     let e = c .before .before .before .enter in
-    fall-next (c .before .before .before .before .before .before .before .before .before .before .before .before .before .before .before .before .before .before .before .before .pre .0) (c .before .before .before .before .before .before .before .before .before .before .loop .inv) (omega (arith, c .before .before .before .before .before .before .before .before .before .loop-test .taken)) (c .before .before .before .before .before .before .before .before .at .result) (c .before .before .before .before .before .before .before .before .at .ensures) (c .before .before .before .before .before .before .before .row .result .now) (c .before .before .before .before .before .before .before .row .ensures) (e .last .0) (e .last .1 .0) (e .last .1 .1 .0) (e .result .u) (e .result .low) (e .ensures) (c .nearest2 .result) (c .nearest2 .ensures)
+    fall-next (c .before .before .before .before .before .before .before .before .before .before .before .before .before .before .before .before .before .before .before .before .pre .0) (c .before .before .before .before .before .before .before .before .before .before .loop .inv) (omega (arith, c .before .before .before .before .before .before .before .before .before .loop-test .taken)) (c .before .before .before .before .before .before .before .before .at .result) (c .before .before .before .before .before .before .before .before .at .ensures) (c .before .before .before .before .before .before .before .row .result .now) (c .before .before .before .before .before .before .before .row .ensures .0) (e .last .0) (e .last .1 .0) (e .last .1 .1 .0) (e .result .u) (e .result .low) (e .ensures) (c .nearest2 .result) (c .nearest2 .ensures)
 
 returns : tie.Need-returns Inv-loop μ-loop
 returns c = fall-end (c .before .before .before .before .before .before .before .before .before .before .before .pre .0) (c .before .loop .inv) (c .loop-test .left)
@@ -82,7 +74,6 @@ descend-spec =
     loop-holds
     at-requires
     sub-row
-    cast-row
     row-requires
     enter-requires
     nearest-requires-2

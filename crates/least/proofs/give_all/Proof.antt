@@ -1,9 +1,7 @@
 -- `least::give_all` meets its contract: each turn gives one bidder their option. Assumes nothing.
 use Prim.Native.Nat.{_-_, _≤_}
 use native.Mathlib.Omega.{arith}
-use lib.ListN.{length}
 use Rattle.sets.proofs.Tests.{at-end}
-use Rattle.bids.proofs.Lent.{line-inside}
 use Rattle.least.specs.Transposing.{Given}
 use Rattle.least.proofs.Giving.{given-none, given-next, given-fits}
 use borrow.Author.Needs.{needs}
@@ -21,11 +19,11 @@ loop-holds c =
     let a = c .before .args in
     (omega arith, given-none (a .items) (a .bids .now) (a .surplus .now) (a .option .now) (a .prices .now) (a .own .now) (c .before .pre .1) (c .before .pre .2))
 
+cast-row : tie.Need-cast-row Inv-loop μ-loop
+cast-row c = omega (arith, c .before .before .loop-test .taken, c .before .before .before .before .before .pre .0 .fit .max-bidders)
+
 row-requires : tie.Need-row-requires Inv-loop μ-loop
-row-requires c κs =
-    let a = c .before .before .before .before .before .args in
-    let f = c .before .before .before .before .before .pre .0 .fit in
-    (omega (arith, f .max-items), omega (arith, c .before .before .loop-test .taken, f .max-bidders), line-inside (a .items) (a .bidders) (c .before .before .before .loop .b) (length (a .bids .now)) (f .long) (c .before .before .loop-test .taken))
+row-requires c κs = search needs
 
 mul-give : tie.Need-mul-give Inv-loop μ-loop
 mul-give c = search needs
@@ -43,7 +41,7 @@ give-requires : tie.Need-give-requires Inv-loop μ-loop
 give-requires c κs =
     let a = c .before .before .before .before .before .before .before .before .args in
     let at = c .before .before .before .before .before .before .loop in
-    let w = given-fits (c .before .before .before .before .before .before .before .before .pre .0) (at .b) (c .before .before .before .before .before .loop-test .taken) (at .prices) (at .own) (at .inv .1) (c .before .before .row .result .now) (c .before .before .row .ensures) (at .prices) (at .own) in
+    let w = given-fits (c .before .before .before .before .before .before .before .before .pre .0) (at .b) (c .before .before .before .before .before .loop-test .taken) (at .prices) (at .own) (at .inv .1) (c .before .before .row .result .now) (c .before .before .row .ensures .0) (at .prices) (at .own) in
     (w .0, w .1, omega (arith, c .before .before .before .before .before .loop-test .taken, c .before .before .before .before .before .before .before .before .pre .0 .fit .max-bidders), w .2)
 
 add-b : tie.Need-add-b Inv-loop μ-loop
@@ -57,7 +55,7 @@ loop-again c =
     let a = c .before .before .before .before .before .before .before .before .before .args in
     let at = c .before .before .before .before .before .before .before .loop in
     let g = c .give in
-    (omega (arith, c .before .before .before .before .before .before .loop-test .taken), given-next (c .before .before .before .before .before .before .before .before .before .pre .0) (at .b) (c .before .before .before .before .before .before .loop-test .taken) (at .prices) (at .own) (at .inv .1) (c .before .before .before .row .result .now) (c .before .before .before .row .ensures) (g .last .0) (g .last .1 .0) (g .ensures .0) (g .ensures .1))
+    (omega (arith, c .before .before .before .before .before .before .loop-test .taken), given-next (c .before .before .before .before .before .before .before .before .before .pre .0) (at .b) (c .before .before .before .before .before .before .loop-test .taken) (at .prices) (at .own) (at .inv .1) (c .before .before .before .row .result .now) (c .before .before .before .row .ensures .0) (g .last .0) (g .last .1 .0) (g .ensures .0) (g .ensures .1))
 
 returns : tie.Need-returns Inv-loop μ-loop
 returns c =
@@ -72,6 +70,7 @@ give-all-spec =
     Inv-loop
     μ-loop
     loop-holds
+    cast-row
     row-requires
     mul-give
     element-copy-out-give

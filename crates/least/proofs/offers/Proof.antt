@@ -7,7 +7,7 @@ use lib.ListN.{length}
 use Rattle.sets.specs.Bit.{has}
 use Rattle.sets.proofs.Tests.{at-end}
 use Rattle.least.specs.Falling.{Offered}
-use Rattle.least.proofs.Holders.{line-long}
+use Rattle.least.proofs.Holders.{table-row, line-long}
 use Rattle.least.proofs.Offering.{offered-none, offered-next}
 use borrow.Author.Needs.{needs}
 use Rattle.least.proofs.offers.Statement.{statement}
@@ -22,10 +22,11 @@ abbrev μ-loop : tie.MeasureT-loop
 loop-holds : tie.Need-loop-holds Inv-loop μ-loop
 loop-holds c = (omega arith, offered-none (c .before .args .items) (c .before .args .bids .now) (c .before .args .seats) (c .before .args .best .now) (c .before .pre .1))
 
+cast-row : tie.Need-cast-row Inv-loop μ-loop
+cast-row c = omega (arith, c .before .loop-test .taken, c .before .before .before .before .pre .0 .max-bidders)
+
 row-requires : tie.Need-row-requires Inv-loop μ-loop
-row-requires c κs =
-    let t = c .before .before .before .before .pre .0 in
-    (t .max-items, omega (arith, c .before .loop-test .taken, t .max-bidders), t .inside (c .before .before .loop .b) (c .before .loop-test .taken))
+row-requires c κs = search needs
 
 add-has-bidder : tie.Need-add-has-bidder Inv-loop μ-loop
 add-has-bidder c = search needs
@@ -37,7 +38,9 @@ offer-unless-requires : tie.Need-offer-unless-requires Inv-loop μ-loop
 offer-unless-requires c κs =
     let a = c .before .before .before .before .before .before .args in
     let t = c .before .before .before .before .before .before .pre .0 in
-    (omega (arith, ap length (c .before .row .ensures), line-long (a .items) (a .bidders) (a .bids .now) t (c .before .before .before .before .loop .b) (c .before .before .before .loop-test .taken), t .max-items), c .before .before .before .before .loop .inv .1 .long)
+    let b = c .before .before .before .before .loop .b in
+    let l = c .before .before .before .loop-test .taken in
+    (omega (arith, ap length (c .before .row .ensures .0 ∙ table-row (a .items) (a .bidders) (a .bids .now) t b l), line-long (a .items) (a .bidders) (a .bids .now) t b l, t .max-items), c .before .before .before .before .loop .inv .1 .long)
 
 add-b : tie.Need-add-b Inv-loop μ-loop
 add-b c = search needs
@@ -49,10 +52,13 @@ loop-again : tie.Need-loop-again Inv-loop μ-loop
 loop-again c =
     let a = c .before .before .before .before .before .before .before .args in
     let at = c .before .before .before .before .before .loop in
-    let o = c .offer-unless in (
+    let o = c .offer-unless in
+    let t = c .before .before .before .before .before .before .before .pre .0 in
+    let l = c .before .before .before .before .loop-test .taken in
+    let e = c .before .before .row .ensures .0 ∙ table-row (a .items) (a .bidders) (a .bids .now) t (at .b) l in (
       omega (arith, c .before .before .before .before .loop-test .taken),
       offered-next (a .items) (a .bids .now) (a .seats) (at .b) (a .best .now) (at .best) (at .inv .1) (c .before .has-bidder .result) (ap (has (a .seats)) (sym (add-one (at .b))) ∙ sym (c .before .has-bidder .ensures))
-          (c .before .before .row .result .now) (c .before .before .row .ensures) (ap length (c .before .before .row .ensures) ∙ line-long (a .items) (a .bidders) (a .bids .now) (c .before .before .before .before .before .before .before .pre .0) (at .b) (c .before .before .before .before .loop-test .taken)) (o .last .0) (o .ensures .0) (o .ensures .1),
+          (c .before .before .row .result .now) e (ap length e ∙ line-long (a .items) (a .bidders) (a .bids .now) t (at .b) l) (o .last .0) (o .ensures .0) (o .ensures .1),
     )
 
 returns : tie.Need-returns Inv-loop μ-loop
@@ -68,6 +74,7 @@ offers-spec =
     Inv-loop
     μ-loop
     loop-holds
+    cast-row
     row-requires
     add-has-bidder
     has-bidder-requires
