@@ -18,7 +18,7 @@ use Rattle.rule.specs.Sheet.{amount}
 use Rattle.rule.specs.Demand.{Demand}
 use Rattle.rule.specs.Round.{Round, raised, lowered, closed}
 use Rattle.rule.specs.Refusal.{Refusal, on, first, badItems, badBidders, badLength, anyOver, badBidder}
-use Rattle.rule.proofs.Refusal.{passed, given, none as first-none, in-range}
+use Rattle.rule.proofs.Refusal.{passed, given, none as first-none, other, in-range}
 use Rattle.rule.proofs.Limits.{amount-beyond}
 use Rattle.lines.specs.Lines.{writtenTo}
 use Rattle.reports.specs.Report.{unfit}
@@ -107,12 +107,6 @@ pub keeps-all : (r : Auction) → Sound r → (calls : List Call) → Sound (run
 unfolding run
 keeps-all r g [] = g
 keeps-all r g (c ∷ calls) = keeps-all (call r c .next) (keeps r g c) calls
-
--- a number that is not the first of a list, nor any later one
-other : (n k : ℕ) (a : Bool) (rest : List Refusal) → (n ≡ k → ⊥) → (first rest ≡ k → ⊥) → first (on n a ∷ rest) ≡ k → ⊥
-unfolding first
-other n k true rest ne h e = ne e
-other n k false rest ne h e = h e
 
 none-eleven : first [] ≡ 11 → ⊥
 unfolding first

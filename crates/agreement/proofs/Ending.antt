@@ -11,7 +11,7 @@ use borrow.Author.Tests.{not-true as not-true-is}
 use Rattle.sets.specs.Count.{anyBelow}
 use Rattle.sets.specs.Bit.{has}
 use Rattle.sets.specs.Lists.{places}
-use Rattle.sets.proofs.Counting.{and-below, and-left, and-right, not-both, is-false, any-use}
+use Rattle.sets.proofs.Counting.{and-below, and-left, and-right, not-both, is-false, any-use, and-right-false}
 use Rattle.rule.specs.Sheet.{amount, Sheet}
 use Rattle.rule.specs.Demand.{Demand}
 use Rattle.rule.specs.Excess.{excessDemand, positive}
@@ -30,7 +30,6 @@ use Rattle.agreement.specs.Calls.{ending, ended, Answered, call}
 use Rattle.agreement.specs.Machine.{Machine, none, at, phaseOf, phase, saidAll, isMissing, demandsStand, answers, machineEndNumber, next, turned, machineEnd, machine}
 use Rattle.agreement.specs.Agreement.{standsFor}
 use Rattle.agreement.proofs.Along.{raised-closed, lowered-closed, step-by, rising-at, moved-small, phase-is, long-along, falling-calm}
-use Rattle.agreement.proofs.Bools.{and-right-false}
 use Rattle.agreement.proofs.Numbers.{first-same}
 use Rattle.agreement.proofs.Standing.{said-demands, none-missing, closed-stands, reports-is, missing-is, above-is, rising-is, top-is}
 use Rattle.agreement.proofs.Follows.{Good, Follows, no-nulls, no-reported, no-sets}

@@ -10,7 +10,7 @@ use lib.ListN.{length, getD, set, replicate, getD-replicate}
 use lib.Seq.{getD-set-same, getD-set-other}
 use borrow.Author.Tests.{eq-eqb, ne-eqb}
 use Rattle.sets.specs.Bit.{has, setOf}
-use Rattle.sets.proofs.Counting.{and-left, or-right, not-both, not-is}
+use Rattle.sets.proofs.Counting.{and-left, or-right, not-both, not-is, or-false, and-true, and-right-false, or-right-false}
 use Rattle.sets.proofs.Members.{has-setOf, empty-has}
 use Rattle.rule.specs.Sheet.{amount}
 use Rattle.rule.specs.Demand.{Demand}
@@ -21,8 +21,7 @@ use Rattle.live.specs.Calls.{isClosed, withReport, cleared}
 use Rattle.live.specs.declared.Auction.{Auction}
 use Rattle.live.specs.declared.Phase.{Phase}
 use Rattle.live.specs.declared.Phase.the-variants.{Rising, Falling, Closed}
-use Rattle.agreement.proofs.Bools.{or-false, and-true, and-right-false}
-use Rattle.live.proofs.Formed.{or-right-false, Formed}
+use Rattle.live.proofs.Formed.{Formed}
 
 -- ---- rounds and close of two records
 

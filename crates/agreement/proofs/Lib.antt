@@ -1,5 +1,4 @@
 pub mod Agreed
-pub mod Bools
 pub mod Numbers
 pub mod Rounds
 pub mod Keeps
@@ -16,3 +15,5 @@ pub mod Counted
 pub mod Agreement
 pub mod Endings
 pub mod Sealed
+pub mod Sheets
+pub mod AgreedBytes

@@ -1,8 +1,8 @@
 -- Lists and sets made of a function: equal where the functions are, and with one place changed. Assumes nothing.
 use Prim.Native.Nat.{ℕ, zero, suc, _+_, _<_}
-use mathlib.Core.Path.{_≡_, refl, sym, ap, _∙_, subst}
+use mathlib.Core.Path.{_≡_, sym, ap, _∙_, subst}
 use mathlib.Core.Bool.{Bool, false, cond}
-use mathlib.Core.List.{List, _++_}
+use mathlib.Core.List.{List}
 use native.Mathlib.Omega.{arith}
 use native.Mathlib.Nat.{zero-add}
 use native.Mathlib.Decide.{ℕ-discrete}
@@ -15,7 +15,6 @@ use Rattle.sets.specs.Lists.{tabulate}
 use Rattle.sets.proofs.Lists.{tabulate-length, tabulate-at, is-tabulate}
 use Rattle.sets.proofs.Members.{setOf-lt, has-setOf, none-zero, has-zero}
 use Rattle.rule.specs.Demand.{Demand, nth}
-use Rattle.lines.specs.Lines.{joined}
 
 pub tabulate-cong : {A : Type 0} (z : A) (n : ℕ) (f g : ℕ → A) (i : ℕ) → ((k : ℕ) → k < n → f (i + k) ≡ g (i + k)) → tabulate n f i ≡ tabulate n g i
 tabulate-cong z n f g i h =
@@ -50,12 +49,6 @@ tabulate-set n f b v =
         ∙ sym (ap (λ (x : Bool). cond x v (f k)) (eq-eqb k b e))
     at k l (no ne) =
         getD-set-other (tabulate n f 0) b k v 0 ne ∙ tabulate-at n f 0 k 0 l ∙ ap f (zero-add k) ∙ sym (ap (λ (x : Bool). cond x v (f k)) (ne-eqb k b ne))
-
-pub joined-cong : (n : ℕ) (f g : ℕ → List ℕ) → ((k : ℕ) → k < n → f k ≡ g k) → joined n f ≡ joined n g
-unfolding joined
-joined-cong zero f g h = refl
-joined-cong (suc n) f g h =
-    ap (λ x. x ++ joined n (λ k. f (suc k))) (h 0 (omega arith)) ∙ ap (λ xs. g 0 ++ xs) (joined-cong n (λ k. f (suc k)) (λ k. g (suc k)) (λ k l. h (suc k) (omega arith)))
 
 pub setOf-none : (m : ℕ) (f : ℕ → Bool) → ((k : ℕ) → k < m → f (suc k) ≡ false) → setOf m f ≡ 0
 setOf-none m f h = none-zero m (setOf m f) (setOf-lt m f) at

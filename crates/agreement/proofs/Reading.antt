@@ -2,10 +2,10 @@
 use Prim.Native.Nat.{ℕ, zero, suc, _≤_}
 use mathlib.Core.Path.{_≡_, refl, sym, ap, _∙_, subst}
 use mathlib.Core.Bool.{true, not}
-use mathlib.Core.List.{List, [], _++_}
+use mathlib.Core.List.{List, []}
 use native.Mathlib.Omega.{arith}
 use lib.Dec.{ltb}
-use lib.ListN.{length, getD}
+use lib.ListN.{length}
 use borrow.Author.Tests.{le-ltb}
 use borrow.Author.Tests.{not-false as not-false-is}
 use Rattle.sets.specs.Lists.{places}
@@ -17,8 +17,7 @@ use Rattle.rule.specs.Assignment.{assignment}
 use Rattle.rule.specs.Closing.{assignmentAt, Closing}
 use Rattle.rule.proofs.Limits.{Limits}
 use Rattle.rule.proofs.Refusal.{passed, first-nil, none as first-none}
-use Rattle.digits.specs.Digits.{hex}
-use Rattle.lines.specs.Lines.{newline, joined, closingSheet, closingLength, writtenTo}
+use Rattle.lines.specs.Lines.{closingSheet, closingLength, writtenTo}
 use Rattle.live.specs.Auction.{reportsOf, aboveZero, wellFormed}
 use Rattle.live.specs.Calls.{isClosed}
 use Rattle.live.specs.Reading.{readNumber, namesOf, sheetOf, readBytes}
@@ -26,17 +25,14 @@ use Rattle.agreement.specs.Calls.{reading, shown, call}
 use Rattle.agreement.specs.Machine.{Machine, at, answers, sealedSheet, machineReadNumber, machineRead, machine}
 use Rattle.agreement.specs.Agreement.{standsFor, ClosedAs}
 use Rattle.agreement.proofs.Along.{closed-close}
-use Rattle.agreement.proofs.Lists.{joined-cong}
+use Rattle.lines.proofs.Same.{sheet-same}
 use Rattle.agreement.proofs.Numbers.{first-same}
 use Rattle.agreement.proofs.Standing.{said-demands, closed-stands, reports-is, above-is}
 use Rattle.agreement.proofs.Follows.{Good, Follows}
 
 -- the sheet has regard to the prices of the items only
 pub sheet-places : (m n ups downs : ℕ) (p options : List ℕ) → m ≤ 32 → closingSheet m n ups downs (places 32 p) options ≡ closingSheet m n ups downs p options
-unfolding closingSheet
-sheet-places m n ups downs p options few =
-    ap (λ (x : List ℕ). hex 6 ups ++ hex 6 downs ++ newline ++ x ++ newline ++ joined n (λ b. hex 2 (getD options b 0)) ++ newline)
-    (joined-cong m (λ k. hex 4 (getD (places 32 p) k 0)) (λ k. hex 4 (getD p k 0)) (λ k l. ap (hex 4) (places-at 32 p k (omega arith))))
+sheet-places m n ups downs p options few = sheet-same m n ups downs (places 32 p) p options options (λ k l. places-at 32 p k (omega arith)) (λ b l. refl)
 
 module _ (s : Sheet) (lim : Limits s) (c : Closing s) (t : Machine) (g : Good s t) (w : wellFormed (standsFor s t) ≡ true) where
   abbrev m : ℕ

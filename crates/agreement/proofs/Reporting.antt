@@ -9,7 +9,7 @@ use lib.ListN.{length, set}
 use borrow.Author.Tests.{eqb-true}
 use Rattle.sets.specs.Bit.{has, setOf}
 use Rattle.sets.specs.Lists.{tabulate}
-use Rattle.sets.proofs.Counting.{not-both, or-right}
+use Rattle.sets.proofs.Counting.{not-both, or-right, or-false, and-true, and-right-false}
 use Rattle.sets.proofs.Members.{has-setOf, setOf-cong}
 use Rattle.rule.specs.Sheet.{Sheet}
 use Rattle.rule.specs.Demand.{Demand}
@@ -23,7 +23,6 @@ use Rattle.live.proofs.Parts.{by-parts}
 use Rattle.agreement.specs.Calls.{reporting, clearing, call}
 use Rattle.agreement.specs.Machine.{Standing, none, stands, Machine, at, phase, doesStand, said, tells, machine, machineReport, machineClear}
 use Rattle.agreement.specs.Agreement.{standsFor}
-use Rattle.agreement.proofs.Bools.{or-false, and-true, and-right-false}
 use Rattle.agreement.proofs.Lists.{tabulate-same, tabulate-set}
 use Rattle.agreement.proofs.Numbers.{first-same}
 use Rattle.agreement.proofs.Standing.{closed-stands, reported-is}

@@ -1,9 +1,10 @@
 -- What holds of the lent lists where no number applies. Assumes nothing.
 use Prim.Native.Nat.{ℕ, _*_, _≤_}
-use mathlib.Core.Path.{_≡_, refl}
-use mathlib.Core.Bool.{Bool, true, false, _||_}
+use mathlib.Core.Path.{_≡_}
+use mathlib.Core.Bool.{_||_}
 use mathlib.Core.List.{List}
 use lib.ListN.{length}
+use Rattle.sets.proofs.Counting.{or-left-false, or-right-false}
 use Rattle.rule.specs.Refusal.{badItems, badBidders, badLength}
 use Rattle.rule.proofs.Refusal.{none, in-range, exact-is}
 use Rattle.dewgneiss.specs.Lent.{unfit, lentRefusal}
@@ -15,15 +16,6 @@ pub record Accepted (m n : ℕ) (rounds prices options : List ℕ) : Type 0 wher
   pub as-items : length prices ≡ m
   pub as-bidders : length options ≡ n
 
-left : (a b : Bool) → a || b ≡ false → a ≡ false
-left true b e = e
-left false b e = refl
-
-right : (a b : Bool) → a || b ≡ false → b ≡ false
-right true true e = e
-right true false e = refl
-right false b e = e
-
 pub accepted : (m n : ℕ) (start bids rounds prices options : List ℕ)
     → lentRefusal m n start bids rounds prices options ≡ 0 → Accepted m n rounds prices options
 unfolding lentRefusal unfit badItems badBidders
@@ -33,11 +25,11 @@ accepted m n start bids rounds prices options e =
     let h = none 2 (badLength start m) _ (g .1) in
     let k = none 2 (badLength bids (n * m)) _ (h .1) in
     let u = none 2 (unfit m n rounds prices options) _ (k .1) .0 in
-    let v = left (badLength rounds 2 || badLength prices m) (badLength options n) u in
+    let v = or-left-false (badLength rounds 2 || badLength prices m) (badLength options n) u in
     record {
       items = in-range 32 m (f .0) .1;
       bidders = in-range 64 n (g .0) .1;
-      two = exact-is rounds 2 (left (badLength rounds 2) (badLength prices m) v);
-      as-items = exact-is prices m (right (badLength rounds 2) (badLength prices m) v);
-      as-bidders = exact-is options n (right (badLength rounds 2 || badLength prices m) (badLength options n) u);
+      two = exact-is rounds 2 (or-left-false (badLength rounds 2) (badLength prices m) v);
+      as-items = exact-is prices m (or-right-false (badLength rounds 2) (badLength prices m) v);
+      as-bidders = exact-is options n (or-right-false (badLength rounds 2 || badLength prices m) (badLength options n) u);
     }

@@ -2,3 +2,4 @@ pub mod Copying
 pub mod Lent
 pub mod Accepted
 pub mod Results
+pub mod Back

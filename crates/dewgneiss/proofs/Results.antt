@@ -6,11 +6,10 @@ use mathlib.Core.List.{List, [], _∷_}
 use native.Mathlib.Omega.{arith}
 use lib.ListN.{length, set}
 use Rattle.sets.specs.Lists.{places}
-use Rattle.rule.specs.Sheet.{Sheet}
 use Rattle.rule.specs.Refusal.{badItems, badBidders, badLength, anyOver}
-use Rattle.bids.specs.Lent.{sheetOf}
 use Rattle.bids.specs.Refusal.{sealedRefusal}
-use Rattle.auction.specs.Sealed.{sealedOf, outcome, refused, closed}
+use Rattle.auction.specs.Sealed.{sealedOf}
+use Rattle.auction.proofs.Sealing.{sealed-number}
 use Rattle.sheet.specs.Close.{byNumber}
 use Rattle.auction.specs.declared.Closing.{Closing}
 use Rattle.dewgneiss.specs.Lent.{unfit, lentRefusal, withLengths}
@@ -23,16 +22,6 @@ both (x ∷ []) a b e = absurd (omega arith)
 both (x ∷ y ∷ []) a b e = refl
 both (x ∷ y ∷ z ∷ xs) a b e = absurd (omega arith)
 
--- the outcome has the number that it goes by
-outcome-number : (k : ℕ) (s : Sheet) → outcome k s .refusal ≡ k
-unfolding outcome refused closed
-outcome-number zero s = refl
-outcome-number (suc k) s = refl
-
-number-of : (m n : ℕ) (start bids : List ℕ) → sealedOf m n start bids .refusal ≡ sealedRefusal m n start bids
-unfolding sealedOf
-number-of m n start bids = outcome-number (sealedRefusal m n start bids) (sheetOf m n start bids)
-
 pub lent-number : (m n : ℕ) (start bids rounds prices options : List ℕ) (r : Closing) (u : Bool) (why : ℕ)
     → r ≡ sealedOf m n start bids → u ≡ unfit m n rounds prices options → why ≡ withLengths (r .refusal) u
     → why ≡ lentRefusal m n start bids rounds prices options
@@ -40,7 +29,7 @@ unfolding lentRefusal sealedRefusal
 lent-number m n start bids rounds prices options r u why er eu e =
     e
     ∙ ap (λ (x : Closing). withLengths (x .refusal) u) er
-    ∙ ap (λ (k : ℕ). withLengths k u) (number-of m n start bids)
+    ∙ ap (λ (k : ℕ). withLengths k u) (sealed-number m n start bids)
     ∙ ap (λ (x : Bool). withLengths (sealedRefusal m n start bids) x) eu
     ∙ in-order (badItems m) (badBidders n) (badLength start m) (badLength bids (n * m)) (anyOver start) (anyOver bids) (unfit m n rounds prices options)
 

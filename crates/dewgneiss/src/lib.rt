@@ -35,16 +35,16 @@ fn put_options(out: &mut [u8], options: &[u8; 64])
 }
 
 // Whether the lists lent for the results are not exact.
-fn unfit(items: u32, bidders: u32, rounds: &[u32], prices: &[u16], options: &[u8]) -> bool
+fn unfit(items: usize, bidders: usize, rounds: &[u32], prices: &[u16], options: &[u8]) -> bool
     ensures { λ r. ⌜ r ≡ unfit items bidders (now (rounds .entry)) (now (prices .entry)) (now (options .entry)) ⌝ }
 {
     if rounds.len() != 2 {
         return true;
     }
-    if prices.len() != items as usize {
+    if prices.len() != items {
         return true;
     }
-    if options.len() != bidders as usize {
+    if options.len() != bidders {
         return true;
     }
     false
@@ -109,8 +109,10 @@ pub extern "C" fn dewgneiss_sealed(
     ensures prices { λ r. ⌜ now (prices .exit) ≡ byNumber r (places items (sealedOf items bidders (now (start .entry)) (now (bids .entry)) .prices)) (now (prices .entry)) ⌝ }
     ensures options { λ r. ⌜ now (options .exit) ≡ byNumber r (places bidders (sealedOf items bidders (now (start .entry)) (now (bids .entry)) .assignment)) (now (options .entry)) ⌝ }
 {
-    let c = auction::sealed(items, bidders, start, bids);
-    let why = with_lengths(c.refusal, unfit(items, bidders, rounds, prices, options));
+    let m = items as usize;
+    let n = bidders as usize;
+    let c = auction::sealed(m, n, start, bids);
+    let why = with_lengths(c.refusal, unfit(m, n, rounds, prices, options));
     if why != 0 {
         return why;
     }

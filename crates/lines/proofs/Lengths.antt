@@ -6,7 +6,7 @@ use native.Mathlib.Omega.{arith}
 use lib.ListN.{length, getD, length-append}
 use Rattle.digits.specs.Digits.{hex}
 use Rattle.digits.proofs.Digits.{hex-length}
-use Rattle.lines.specs.Lines.{newline, joined, closingSheet, closingLength}
+use Rattle.lines.specs.Lines.{newline, joined, pricesLine, closingSheet, closingLength}
 
 pub joined-length : (n c : ℕ) (f : ℕ → List ℕ) → ((k : ℕ) → length (f k) ≡ c) → length (joined n f) ≡ c * n
 unfolding joined
@@ -43,7 +43,7 @@ pub by-lines : (m n ups downs : ℕ) (prices options : List ℕ)
     ≡ hex 6 ups ++ hex 6 downs ++ newline
     ++ (joined m (λ k. hex 4 (getD prices k 0)) ++ newline)
     ++ (joined n (λ b. hex 2 (getD options b 0)) ++ newline)
-unfolding closingSheet
+unfolding closingSheet pricesLine
 by-lines m n ups downs prices options = simp append-assoc
 
 pub closing-length : (m n ups downs : ℕ) (prices options : List ℕ) → length (closingSheet m n ups downs prices options) ≡ closingLength m n

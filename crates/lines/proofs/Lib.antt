@@ -1,4 +1,5 @@
 pub mod Stores
+pub mod Numbered
 pub mod Lengths
 pub mod Written
 pub mod Numbers

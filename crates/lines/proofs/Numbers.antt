@@ -7,6 +7,7 @@ use native.Mathlib.Omega.{arith}
 use native.Mathlib.Nat.{not-suc-le-zero}
 use lib.ListN.{length, getD}
 use Rattle.sets.specs.Lists.{tabulate}
+use Rattle.sets.proofs.Lists.{tabulate-shift}
 use Rattle.digits.specs.Digits.{hex}
 use Rattle.digits.specs.Reading.{_>>=_, numberAt}
 use Rattle.digits.proofs.Digits.{hex-length}
@@ -15,11 +16,6 @@ use Rattle.digits.proofs.Gives.{gives, gave}
 use Rattle.digits.proofs.Numbers.{number-at, number-read}
 use Rattle.lines.specs.Lines.{joined}
 use Rattle.lines.specs.Reading.{numbersAt}
-
-tabulate-shift : (n : ℕ) (g : ℕ → ℕ) (i : ℕ) → tabulate n (λ k. g (suc k)) i ≡ tabulate n g (suc i)
-unfolding tabulate
-tabulate-shift zero g i = refl
-tabulate-shift (suc n) g i = ap (λ (r : List ℕ). g (suc i) ∷ r) (tabulate-shift n g (suc i))
 
 -- the numbers xs were read: so many, in so many digits each
 pub record Read (bytes : List ℕ) (at k c : ℕ) (xs : List ℕ) : Type 0 where

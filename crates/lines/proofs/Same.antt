@@ -6,7 +6,7 @@ use mathlib.Core.List.{List, _++_}
 use native.Mathlib.Omega.{arith}
 use lib.ListN.{getD}
 use Rattle.digits.specs.Digits.{hex}
-use Rattle.lines.specs.Lines.{newline, joined, closingSheet}
+use Rattle.lines.specs.Lines.{newline, joined, pricesLine, closingSheet}
 
 pub joined-same : (n : ℕ) (f g : ℕ → List ℕ) → ((k : ℕ) → k < n → f k ≡ g k) → joined n f ≡ joined n g
 unfolding joined
@@ -16,9 +16,9 @@ joined-same (suc n) f g h =
 
 pub sheet-same : (m n ups downs : ℕ) (p q xs ys : List ℕ) → ((k : ℕ) → k < m → getD p k 0 ≡ getD q k 0) → ((b : ℕ) → b < n → getD xs b 0 ≡ getD ys b 0)
     → closingSheet m n ups downs p xs ≡ closingSheet m n ups downs q ys
-unfolding closingSheet
+unfolding closingSheet pricesLine
 sheet-same m n ups downs p q xs ys f g =
-    ap (λ (l : List ℕ). hex 6 ups ++ hex 6 downs ++ newline ++ l ++ newline ++ joined n (λ b. hex 2 (getD xs b 0)) ++ newline)
+    ap (λ (l : List ℕ). hex 6 ups ++ hex 6 downs ++ newline ++ (l ++ newline) ++ joined n (λ b. hex 2 (getD xs b 0)) ++ newline)
     (joined-same m (λ k. hex 4 (getD p k 0)) (λ k. hex 4 (getD q k 0)) (λ k l. ap (hex 4) (f k l)))
-    ∙ ap (λ (l : List ℕ). hex 6 ups ++ hex 6 downs ++ newline ++ joined m (λ k. hex 4 (getD q k 0)) ++ newline ++ l ++ newline)
+    ∙ ap (λ (l : List ℕ). hex 6 ups ++ hex 6 downs ++ newline ++ pricesLine m q ++ l ++ newline)
     (joined-same n (λ b. hex 2 (getD xs b 0)) (λ b. hex 2 (getD ys b 0)) (λ b l. ap (hex 2) (g b l)))

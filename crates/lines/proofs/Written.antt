@@ -1,14 +1,16 @@
 -- The three lines, written one after the other, are the closing sheet; and where it is not written, nothing changes. Assumes nothing.
 use Prim.Native.Nat.{ℕ, _+_, _*_, _≤_, _<_}
-use mathlib.Core.Path.{_≡_, sym, ap, _∙_}
-use mathlib.Core.Bool.{Bool, true, false, cond}
+use mathlib.Core.Path.{_≡_, refl, sym, ap, _∙_}
+use mathlib.Core.Bool.{Bool, true, false, _&&_, cond}
 use mathlib.Core.List.{List, _++_}
 use native.Mathlib.Omega.{arith}
+use lib.Dec.{leb}
 use lib.ListN.{length, getD, length-append}
 use lib.Seq.{sets}
 use borrow.Author.Tests.{le-leb, lt-leb}
+use Rattle.sets.proofs.Counting.{and-right-false}
 use Rattle.digits.specs.Digits.{hex}
-use Rattle.lines.specs.Lines.{newline, joined, closingSheet, closingLength, writtenTo, writes, hasRoom, afterClosing}
+use Rattle.lines.specs.Lines.{newline, joined, closingSheet, closingLength, closingBytes, writtenTo, writes, hasRoom, afterClosing}
 use Rattle.lines.proofs.Stores.{sets-then, sets-front}
 use Rattle.lines.proofs.Lengths.{rounds-length, line-length, by-lines, closing-length}
 
@@ -28,6 +30,19 @@ no-room m n room l k h = simp (le-leb m 32 l, le-leb n 64 k, lt-leb (closingLeng
 pub enough : (m n room : ℕ) → m ≤ 32 → n ≤ 64 → closingLength m n ≤ room → writes m n room ≡ true
 unfolding writes
 enough m n room l k h = simp (le-leb m 32 l, le-leb n 64 k, le-leb (closingLength m n) room h)
+
+-- the count of bytes
+pub bytes-items : (m n : ℕ) → 32 < m → closingBytes m n ≡ 0
+unfolding closingBytes
+bytes-items m n h = simp (lt-leb m 32 h)
+
+pub bytes-bidders : (m n : ℕ) → 64 < n → closingBytes m n ≡ 0
+unfolding closingBytes
+bytes-bidders m n h = ap (λ (t : Bool). cond t (closingLength m n) 0) (ap (λ (t : Bool). leb m 32 && t) (lt-leb n 64 h) ∙ and-right-false (leb m 32) false refl)
+
+pub bytes-are : (m n : ℕ) → m ≤ 32 → n ≤ 64 → closingBytes m n ≡ closingLength m n
+unfolding closingBytes
+bytes-are m n l k = simp (le-leb m 32 l, le-leb n 64 k)
 
 module _ (m n ups downs : ℕ) (prices options out : List ℕ) where
   pub unchanged : writes m n (length out) ≡ false → out ≡ afterClosing m n ups downs prices options out

@@ -1,5 +1,5 @@
 -- Lines of numbers, and the closing sheet's bytes: document 01, "Sheets". Assumes nothing: these are definitions.
-use Prim.Native.Nat.{ℕ, zero, suc, _+_, _*_}
+use Prim.Native.Nat.{ℕ, zero, suc, _+_, _*_, _/_, _%_}
 use mathlib.Core.Bool.{Bool, _&&_, cond}
 use mathlib.Core.List.{List, [], _∷_, _++_}
 use lib.Dec.{leb}
@@ -15,16 +15,32 @@ unfoldable pub joined : ℕ → (ℕ → List ℕ) → List ℕ
 joined zero f = []
 joined (suc n) f = f 0 ++ joined n (λ k. f (suc k))
 
+-- a number in 2 decimal digits, as document 01 writes the number that turns a call down
+unfoldable pub numberText : ℕ → List ℕ
+numberText x = (48 + x / 10) ∷ (48 + x % 10) ∷ []
+
+-- that number alone on its line
+unfoldable pub numberLine : ℕ → List ℕ
+numberLine x = numberText x ++ newline
+
+-- a line of prices of m items, 4 digits each
+unfoldable pub pricesLine : ℕ → List ℕ → List ℕ
+pricesLine m prices = joined m (λ k. hex 4 (getD prices k 0)) ++ newline
+
 -- three lines: rounds raised and rounds lowered, 6 digits each; each price, 4 digits; each bidder's option, 2 digits, 00 for none
 unfoldable pub closingSheet : (m n ups downs : ℕ) (prices options : List ℕ) → List ℕ
 closingSheet m n ups downs prices options =
     hex 6 ups ++ hex 6 downs ++ newline
-    ++ joined m (λ k. hex 4 (getD prices k 0)) ++ newline
+    ++ pricesLine m prices
     ++ joined n (λ b. hex 2 (getD options b 0)) ++ newline
 
 -- how many bytes that is
 unfoldable pub closingLength : ℕ → ℕ → ℕ
 closingLength m n = 15 + 4 * m + 2 * n
+
+-- and how many of them are written where there is room: none for more than 32 items or 64 bidders
+unfoldable pub closingBytes : ℕ → ℕ → ℕ
+closingBytes m n = cond (leb m 32 && leb n 64) (closingLength m n) 0
 
 -- lent bytes after the sheet is written to their front: bytes past the sheet stay as they came
 unfoldable pub writtenTo : List ℕ → List ℕ → List ℕ
@@ -39,10 +55,6 @@ unfoldable pub afterClosing : (m n ups downs : ℕ) (prices options out : List �
 afterClosing m n ups downs prices options out =
     cond (writes m n (length out)) (writtenTo out (closingSheet m n ups downs prices options)) out
 
--- a line of prices of m items, 4 digits each
-unfoldable pub pricesLine : ℕ → List ℕ → List ℕ
-pricesLine m prices = joined m (λ k. hex 4 (getD prices k 0)) ++ newline
-
--- there is room for it from a place on, and the items are at most 32
+-- there is room for a line of prices from a place on, and the items are at most 32
 unfoldable pub hasRoom : (m at room : ℕ) → Bool
 hasRoom m at room = leb m 32 && leb (at + (4 * m + 1)) room

@@ -3,10 +3,11 @@ ghost use mathlib.Core.Path.{_≡_};
 ghost use mathlib.Core.Bool.{cond};
 ghost use mathlib.Core.List.{_++_};
 ghost use Prim.Native.Nat.{_+_, _*_, _≤_};
+ghost use lib.Dec.{ltb};
 ghost use lib.ListN.{length, getD};
 ghost use lib.Seq.{sets};
 ghost use Rattle.digits.specs.Digits.{hex};
-ghost use Rattle.lines.specs.Lines.{newline, joined, pricesLine, hasRoom, closingLength, writes, afterClosing};
+ghost use Rattle.lines.specs.Lines.{newline, joined, numberText, numberLine, pricesLine, hasRoom, closingBytes, writes, afterClosing};
 
 // The first line: rounds raised and rounds lowered.
 fn put_rounds(out: &mut [u8], raised: u32, lowered: u32)
@@ -57,19 +58,47 @@ fn put_options(out: &mut [u8], at: usize, bidders: usize, options: &[u8; 64])
     out[at + 2 * bidders] = b'\n';
 }
 
-// How many bytes a closing sheet is.
-pub fn closing_length(items: u32, bidders: u32) -> usize
-    ensures { λ r. ⌜ r ≡ closingLength items bidders ⌝ }
+// A number in 2 decimal digits, to the front of `out`, where it has 2 bytes.
+pub fn write_two(out: &mut [u8], number: u8)
+    ensures { λ _. ⌜ now (out .exit) ≡ cond (ltb (length (now (out .entry))) 2) (now (out .entry)) (sets (now (out .entry)) 0 (numberText number)) ⌝ }
 {
-    15 + 4 * (items as usize) + 2 * (bidders as usize)
+    if out.len() < 2 {
+        return;
+    }
+    out[0] = b'0' + number / 10;
+    out[1] = b'0' + number % 10;
+}
+
+// A number alone on its line, to the front of `out`, where it has 3 bytes.
+pub fn write_refusal(out: &mut [u8], number: u8)
+    ensures { λ _. ⌜ now (out .exit) ≡ cond (ltb (length (now (out .entry))) 3) (now (out .entry)) (sets (now (out .entry)) 0 (numberLine number)) ⌝ }
+{
+    if out.len() < 3 {
+        return;
+    }
+    write_two(out, number);
+    out[2] = b'\n';
+}
+
+// How many bytes a closing sheet is, and 0 for counts beyond 32 and 64, of which none is written.
+pub fn closing_length(items: usize, bidders: usize) -> usize
+    ensures { λ r. ⌜ r ≡ closingBytes items bidders ⌝ }
+{
+    if 32 < items {
+        return 0;
+    }
+    if 64 < bidders {
+        return 0;
+    }
+    15 + 4 * items + 2 * bidders
 }
 
 // Writes the closing sheet's three lines to the front of `out` and answers true. Where there is no room for them, or the counts are beyond
 // 32 and 64, it answers false and leaves `out` as it came. Prices and options have one lifetime, so that they may be fields of one struct.
 pub fn write_closing<'a>(
     out: &mut [u8],
-    items: u32,
-    bidders: u32,
+    items: usize,
+    bidders: usize,
     raised: u32,
     lowered: u32,
     prices: &'a [u16; 32],
@@ -87,11 +116,9 @@ pub fn write_closing<'a>(
     if out.len() < closing_length(items, bidders) {
         return false;
     }
-    let m = items as usize;
-    let n = bidders as usize;
     put_rounds(out, raised, lowered);
-    put_prices(out, 13, m, prices);
-    put_options(out, 14 + 4 * m, n, options);
+    put_prices(out, 13, items, prices);
+    put_options(out, 14 + 4 * items, bidders, options);
     true
 }
 

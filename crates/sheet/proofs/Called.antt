@@ -1,27 +1,20 @@
 -- What the sheet asks of the sealed auction, and the number that this gives back: with counts in order and exact lengths, 4 or 5 or none. Assumes nothing.
-use Prim.Native.Nat.{ℕ, zero, suc, _*_}
-use mathlib.Core.Path.{_≡_, refl, _∙_}
+use Prim.Native.Nat.{ℕ, _*_}
+use mathlib.Core.Path.{_≡_, _∙_}
 use mathlib.Core.Bool.{false}
 use mathlib.Core.List.{List, [], _∷_}
 use lib.ListN.{length}
-use Rattle.rule.specs.Sheet.{Sheet}
 use Rattle.rule.specs.Refusal.{on, first, badItems, badBidders, badLength, anyOver}
 use Rattle.rule.proofs.Refusal.{passed, exact}
-use Rattle.bids.specs.Lent.{sheetOf}
 use Rattle.bids.specs.Refusal.{sealedRefusal}
-use Rattle.auction.specs.Sealed.{refused, closed, outcome, sealedOf}
-
--- an outcome bears its number
-numbered : (why : ℕ) (s : Sheet) → outcome why s .refusal ≡ why
-unfolding outcome closed refused
-numbered zero s = refl
-numbered (suc why) s = refl
+use Rattle.auction.specs.Sealed.{sealedOf}
+use Rattle.auction.proofs.Sealing.{sealed-number}
 
 pub by-amounts-alone : (m n : ℕ) (start bids : List ℕ) → badItems m ≡ false → badBidders n ≡ false → length start ≡ m → length bids ≡ n * m
     → sealedOf m n start bids .refusal ≡ first (on 4 (anyOver start) ∷ on 5 (anyOver bids) ∷ [])
-unfolding sealedOf sealedRefusal
+unfolding sealedRefusal
 by-amounts-alone m n start bids g h k l =
-    numbered (sealedRefusal m n start bids) (sheetOf m n start bids)
+    sealed-number m n start bids
     ∙ passed 1 (badItems m) _ g
     ∙ passed 2 (badBidders n) _ h
     ∙ passed 3 (badLength start m) _ (exact start m k)

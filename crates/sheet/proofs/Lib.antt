@@ -1,3 +1,4 @@
+pub mod Applied
 pub mod Walking
 pub mod Ahead
 pub mod Rows
@@ -10,3 +11,4 @@ pub mod ReadWritten
 pub mod Sixes
 pub mod Longer
 pub mod Room
+pub mod Accepted

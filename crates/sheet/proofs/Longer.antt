@@ -16,8 +16,9 @@ use Rattle.digits.specs.Reading.{_>>=_, digitValue, digitAt, numberAt}
 use Rattle.lines.specs.Reading.{lineAt}
 use Rattle.digits.proofs.Stands.{there}
 use Rattle.digits.proofs.Gives.{gave}
+use Rattle.lines.specs.Lines.{numberLine}
 use Rattle.sheet.specs.BidSheet.{BidSheet, itemsIn, biddersIn, bidsAt, readSheet}
-use Rattle.sheet.specs.Close.{bidSheetOf, sheetRefusal, closingOf, byNumber, refusalLine, answerOf}
+use Rattle.sheet.specs.Close.{bidSheetOf, sheetRefusal, closingOf, byNumber, answerOf}
 use Rattle.sheet.proofs.Order.{no-items, no-bidders, bad-items, bad-bidders, unreadable}
 use Rattle.sheet.proofs.ReadWritten.{written-read, sheet-length}
 
@@ -107,9 +108,9 @@ module _ (bytes : List ℕ) (long : 8390 ≤ length bytes) where
 
 -- ---- the answer
 
-numbered : (bytes : List ℕ) (room why : ℕ) → sheetRefusal bytes room ≡ suc why → answerOf bytes room ≡ cond (ltb room 3) [] (refusalLine (suc why))
+numbered : (bytes : List ℕ) (room why : ℕ) → sheetRefusal bytes room ≡ suc why → answerOf bytes room ≡ cond (ltb room 3) [] (numberLine (suc why))
 unfolding answerOf
-numbered bytes room why e = ap (λ (k : ℕ). cond (ltb room 3) [] (byNumber k (closingOf (bidSheetOf bytes)) (refusalLine k))) e
+numbered bytes room why e = ap (λ (k : ℕ). cond (ltb room 3) [] (byNumber k (closingOf (bidSheetOf bytes)) (numberLine k))) e
 
 pub same-answer : (bytes : List ℕ) (room k : ℕ) → 8390 ≤ k → answerOf (take k bytes) room ≡ answerOf bytes room
 unfolding itemsIn biddersIn

@@ -9,10 +9,11 @@ use lib.Dec.{ltb}
 use borrow.Author.Tests.{le-ltb}
 use Rattle.rule.specs.Refusal.{first, badItems, badBidders}
 use Rattle.lines.specs.Lines.{closingLength}
+use Rattle.rule.proofs.Refusal.{other}
 use Rattle.sheet.specs.BidSheet.{itemsIn, biddersIn}
 use Rattle.sheet.specs.Close.{sheetRefusal}
 use Rattle.sheet.proofs.Order.{no-items, no-bidders, bad-items, bad-bidders, to-rest}
-use Rattle.sheet.proofs.Sixes.{other, skipped}
+use Rattle.sheet.proofs.Sixes.{skipped}
 use Rattle.sheet.proofs.Longer.{most-items, most-bidders}
 
 none-left : first [] ≡ 3 → ⊥
@@ -31,9 +32,9 @@ module _ (bytes : List ℕ) (room : ℕ) (large : 271 ≤ room) where
       by-tests m n f g true b h k = let z : _≡_ {A = ℕ} 1 3 = sym (bad-items bytes room m f n g h) ∙ three in omega arith
       by-tests m n f g false true h k = let z : _≡_ {A = ℕ} 2 3 = sym (bad-bidders bytes room m f n g h k) ∙ three in omega arith
       by-tests m n f g false false h k =
-          other 3 6 _ _ (λ z. omega arith)
+          other 6 3 _ _ (λ z. omega arith)
           (skipped 3 3 _ _ (fits m n room (most-items m h) (most-bidders n k) large)
-          (other 3 4 _ _ (λ z. omega arith) (other 3 5 _ [] (λ z. omega arith) none-left)))
+          (other 4 3 _ _ (λ z. omega arith) (other 5 3 _ [] (λ z. omega arith) none-left)))
           (sym (to-rest bytes room m f n g h k) ∙ three)
 
       by-bidders : (m : ℕ) (o : Option ℕ) → itemsIn bytes ≡ some m → biddersIn bytes ≡ o → ⊥

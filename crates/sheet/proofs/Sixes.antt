@@ -6,6 +6,7 @@ use mathlib.Core.List.{List, [], _∷_}
 use mathlib.Core.Option.{Option, none, some, Option·getD}
 use native.Mathlib.Omega.{arith}
 use Rattle.rule.specs.Refusal.{Refusal, on, first, badItems, badBidders}
+use Rattle.rule.proofs.Refusal.{other}
 use Rattle.digits.proofs.Gives.{gave}
 use Rattle.sheet.specs.BidSheet.{BidSheet, itemsIn, biddersIn, readSheet}
 use Rattle.sheet.specs.Writing.{bidSheet, Writable}
@@ -13,12 +14,7 @@ use Rattle.sheet.specs.Close.{isNone, bidSheetOf, sheetRefusal}
 use Rattle.sheet.proofs.Order.{no-items, no-bidders, counted, bad-items, bad-bidders, unreadable}
 use Rattle.sheet.proofs.ReadWritten.{read-written, written-read}
 
--- a number that is not k, and one whose condition fails
-pub other : (k n : ℕ) (a : Bool) (rest : List Refusal) → (n ≡ k → ⊥) → (first rest ≡ k → ⊥) → first (on n a ∷ rest) ≡ k → ⊥
-unfolding first
-other k n true rest h g e = h e
-other k n false rest h g e = g e
-
+-- a number whose condition fails
 pub skipped : (k n : ℕ) (a : Bool) (rest : List Refusal) → a ≡ false → (first rest ≡ k → ⊥) → first (on n a ∷ rest) ≡ k → ⊥
 unfolding first
 skipped k n true rest h g e = absurd (let z : _≡_ {A = ℕ} 0 1 = cc in let f : ⊥ = omega arith in f)
@@ -35,10 +31,10 @@ module _ (bytes : List ℕ) (room : ℕ) where
   read-no-six s e six =
       let f = gave (itemsIn bytes) _ s e in
       let g = gave (biddersIn bytes) _ s (f .2) in
-      other 6 1 (badItems (f .0)) _ (λ z. omega arith)
-      (other 6 2 (badBidders (g .0)) _ (λ z. omega arith)
+      other 1 6 (badItems (f .0)) _ (λ z. omega arith)
+      (other 2 6 (badBidders (g .0)) _ (λ z. omega arith)
       (skipped 6 6 (isNone (readSheet bytes)) _ (ap isNone e)
-      (other 6 3 _ _ (λ z. omega arith) (other 6 4 _ _ (λ z. omega arith) (other 6 5 _ [] (λ z. omega arith) none-left)))))
+      (other 3 6 _ _ (λ z. omega arith) (other 4 6 _ _ (λ z. omega arith) (other 5 6 _ [] (λ z. omega arith) none-left)))))
       (sym (counted bytes room (f .0) (f .1) (g .0) (g .1)) ∙ six)
 
   -- what cannot be read is, unless the counts are turned down first

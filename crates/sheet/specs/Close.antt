@@ -1,13 +1,12 @@
 -- A bid sheet is closed: which number turns it down, and what the lent bytes hold afterwards. Assumes nothing: these are definitions.
-use Prim.Native.Nat.{ℕ, zero, suc, _/_, _%_}
+use Prim.Native.Nat.{ℕ, zero, suc}
 use mathlib.Core.Bool.{Bool, true, false, _||_, cond}
 use mathlib.Core.List.{List, [], _∷_}
 use mathlib.Core.Option.{Option, none, some, Option·getD}
 use lib.Dec.{ltb}
 use lib.ListN.{length}
 use Rattle.rule.specs.Refusal.{on, first, badItems, badBidders, anyOver}
-use Rattle.digits.specs.Digits.{digit}
-use Rattle.lines.specs.Lines.{newline, closingSheet, closingLength, writtenTo}
+use Rattle.lines.specs.Lines.{numberLine, closingSheet, closingLength, writtenTo}
 use Rattle.auction.specs.Sealed.{sealedOf}
 use Rattle.sheet.specs.BidSheet.{BidSheet, itemsIn, biddersIn, readSheet}
 
@@ -54,10 +53,6 @@ byNumber (suc why) a b = b
 unfoldable pub closedTo : List ℕ → List ℕ → List ℕ
 closedTo bytes out = byNumber (sheetRefusal bytes (length out)) (writtenTo out (closingOf (bidSheetOf bytes))) out
 
--- a number's line: two decimal digits
-unfoldable pub refusalLine : ℕ → List ℕ
-refusalLine why = digit (why / 10) ∷ digit (why % 10) ∷ newline
-
 -- the answer to a bid sheet: the closing sheet, or the number's line, and nothing where there is not even room for that
 unfoldable pub answerOf : List ℕ → (room : ℕ) → List ℕ
-answerOf bytes room = cond (ltb room 3) [] (byNumber (sheetRefusal bytes room) (closingOf (bidSheetOf bytes)) (refusalLine (sheetRefusal bytes room)))
+answerOf bytes room = cond (ltb room 3) [] (byNumber (sheetRefusal bytes room) (closingOf (bidSheetOf bytes)) (numberLine (sheetRefusal bytes room)))

@@ -2,3 +2,4 @@ pub mod BidSheet
 pub mod Writing
 pub mod Close
 pub mod Steps
+pub mod Accepted

@@ -8,9 +8,9 @@ ghost use lib.ListN.{length, take};
 ghost use Rattle.digits.specs.Reading.{numberIn, asNumber};
 ghost use Rattle.lines.specs.Reading.{endsAt, lineAt};
 ghost use Rattle.lines.specs.Lines.{writtenTo};
-ghost use Rattle.rule.specs.Refusal.{outside, badItems, badBidders};
+ghost use Rattle.rule.specs.Refusal.{badItems, badBidders};
 ghost use Rattle.sheet.specs.BidSheet.{itemsIn, biddersIn, bidsAt};
-ghost use Rattle.sheet.specs.Close.{sheetRefusal, closedTo, refusalLine, answerOf};
+ghost use Rattle.sheet.specs.Close.{sheetRefusal, closedTo, answerOf};
 ghost use Rattle.sheet.specs.Steps.{readAs, ClosedRead, Closed};
 
 // How a bid sheet came out: the number that turned it down, or 0, and how many bytes of closing sheet were written.
@@ -112,18 +112,8 @@ fn refused(why: u8) -> Outcome
     }
 }
 
-// Whether a count is outside 1 to the most there may be.
-fn outside(count: u32, most: u32) -> bool
-    ensures { λ r. ⌜ r ≡ outside most count ⌝ }
-{
-    if count < 1 {
-        return true;
-    }
-    most < count
-}
-
 // Closes a sheet that was read: where there is room for it, the closing sheet of the sealed auction is written, unless that was turned down.
-fn close_read(items: u32, bidders: u32, start: &[u16], bids: &[u16], out: &mut [u8]) -> Outcome
+fn close_read(items: usize, bidders: usize, start: &[u16], bids: &[u16], out: &mut [u8]) -> Outcome
     requires { ⌜ (badItems items ≡ false) × (badBidders bidders ≡ false) × (length (now start) ≡ items) × (length (now bids) ≡ bidders * items) ⌝ }
     ensures { λ r. ⌜ ClosedRead (record { items = items; bidders = bidders; start = now (start .entry); bids = now (bids .entry) })
         (now (out .entry)) r (now (out .exit)) ⌝ }
@@ -153,23 +143,21 @@ fn close_read(items: u32, bidders: u32, start: &[u16], bids: &[u16], out: &mut [
 }
 
 // Closes a sheet whose counts are read and in order.
-fn close_counted(bytes: &[u8], items: u32, bidders: u32, out: &mut [u8]) -> Outcome
+fn close_counted(bytes: &[u8], items: usize, bidders: usize, out: &mut [u8]) -> Outcome
     requires { ⌜ (itemsIn (now bytes) ≡ some items) × (biddersIn (now bytes) ≡ some bidders) × (badItems items ≡ false) × (badBidders bidders ≡ false)
         × (items ≤ 32) × (bidders ≤ 64) ⌝ }
     ensures { λ r. ⌜ Closed (now (bytes .entry)) (now (out .entry)) r (now (out .exit)) ⌝ }
 {
-    let m = items as usize;
-    let n = bidders as usize;
-    let size = n * m;
+    let size = bidders * items;
     let mut start = [0u16; 32];
     let mut bids = [0u16; 2048];
-    if !line_at(bytes, 4, &mut start[..m]) {
+    if !line_at(bytes, 4, &mut start[..items]) {
         return refused(6);
     }
-    if !bids_at(bytes, 5 + 4 * m, m, n, &mut bids) {
+    if !bids_at(bytes, 5 + 4 * items, items, bidders, &mut bids) {
         return refused(6);
     }
-    close_read(items, bidders, &start[..m], &bids[..size], out)
+    close_read(items, bidders, &start[..items], &bids[..size], out)
 }
 
 fn close(bytes: &[u8], out: &mut [u8]) -> Outcome
@@ -181,13 +169,15 @@ fn close(bytes: &[u8], out: &mut [u8]) -> Outcome
     let Number::Is(bidders) = read_number(bytes, 0, 2, 2) else {
         return refused(6);
     };
-    if outside(items, 32) {
+    let m = items as usize;
+    let n = bidders as usize;
+    if sets::outside(32, m) {
         return refused(1);
     }
-    if outside(bidders, 64) {
+    if sets::outside(64, n) {
         return refused(2);
     }
-    close_counted(bytes, items, bidders, out)
+    close_counted(bytes, m, n, out)
 }
 
 // Closes a bid sheet: writes the closing sheet to the front of `out` and answers 0, or answers the number that turns the sheet down and leaves `out`
@@ -197,16 +187,6 @@ pub fn close_sheet(bytes: &[u8], out: &mut [u8]) -> u8
 {
     let done = close(bytes, out);
     done.refusal
-}
-
-// The number's line: two decimal digits.
-fn put_refusal(out: &mut [u8], why: u8)
-    requires { ⌜ (3 ≤ length (now out)) × (why < 10) ⌝ }
-    ensures { λ _. ⌜ now (out .exit) ≡ writtenTo (now (out .entry)) (refusalLine why) ⌝ }
-{
-    out[0] = b'0' + why / 10;
-    out[1] = b'0' + why % 10;
-    out[2] = b'\n';
 }
 
 // Answers a bid sheet in full at the front of `out`, by the closing sheet or by the number's line, and says how many bytes that is; with room for
@@ -223,6 +203,6 @@ pub fn answer(bytes: &[u8], out: &mut [u8]) -> usize
     if why == 0 {
         return done.length;
     }
-    put_refusal(out, why);
+    lines::write_refusal(out, why);
     3
 }

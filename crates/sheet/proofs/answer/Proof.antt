@@ -1,10 +1,9 @@
 -- `sheet::answer` meets its contract. Assumes nothing.
 use Prim.Native.Nat.{_≤_}
 use mathlib.Core.Path.{sym, ap}
-use native.Mathlib.Omega.{arith}
 use lib.ListN.{length}
 use borrow.Author.Needs.{needs}
-use Rattle.sheet.proofs.Answers.{one-digit, closing-long, closing-lent, line-long, line-lent, no-answer, nothing-lent}
+use Rattle.sheet.proofs.Answers.{closing-long, closing-lent, line-long, line-lent, no-answer, nothing-lent}
 use Rattle.sheet.proofs.answer.Statement.{statement}
 use Rattle.sheet.proofs.answer.Tie as tie
 
@@ -28,12 +27,8 @@ returns-2 c =
       closing-lent (a .bytes .now) (a .out .now) (done .result) (done .last .1 .0) (done .ensures) room (c .if2 .taken),
     )
 
-put-refusal-requires : tie.Need-put-refusal-requires
-put-refusal-requires c κs =
-    let a = c .before .before .before .before .before .before .before .before .before .args in
-    let done = c .before .before .before .before .close in
-    let same = done .kept .1 .0 in
-    (omega arith, omega (arith, one-digit (a .bytes .now) (length (a .out .now)), done .ensures .number))
+write-refusal-requires : tie.Need-write-refusal-requires
+write-refusal-requires c κs = search needs
 
 same-length-2 : tie.Need-same-length-2
 same-length-2 c = search needs
@@ -45,7 +40,7 @@ returns-3 c =
     let room : 3 ≤ length (a .out .now) = c .before .before .before .before .before .before .before .before .before .if1 .left in
     let why = c .before .before .before .before .if2 .left in (
       line-long (a .bytes .now) (a .out .now) (done .result) (done .last .1 .0) (done .ensures) room why,
-      line-lent (a .bytes .now) (a .out .now) (done .result) (done .last .1 .0) (done .ensures) room why (c .before .before .put-refusal .last .0) (c .before .before .put-refusal .ensures),
+      line-lent (a .bytes .now) (a .out .now) (done .result) (done .last .1 .0) (done .ensures) room why (c .before .before .write-refusal .last .0) (c .before .before .write-refusal .ensures),
     )
 
 pub answer-spec : {M : Type 1} → statement M
@@ -56,6 +51,6 @@ answer-spec =
     close-requires
     same-length
     returns-2
-    put-refusal-requires
+    write-refusal-requires
     same-length-2
     returns-3)

@@ -66,6 +66,12 @@ bidders-read : (c : tie.After-known-told2) → biddersIn (c .before .before .bef
 unfolding biddersIn
 bidders-read c = was-number 2 (c .before .before .before .before .before .before .before .before .before .before .args .bytes .now) 2 (c .before .bidders .given .0 .0) (omega arith) (sym (c .before .before .before .read-number2 .ensures) ∙ c .before .bidders .given .1)
 
+cast-m : tie.Need-cast-m
+cast-m c = search needs
+
+cast-n : tie.Need-cast-n
+cast-n c = search needs
+
 outside-requires : tie.Need-outside-requires
 outside-requires c κs = search needs
 
@@ -134,6 +140,8 @@ close-spec =
     enum-told-2
     refused-requires-2
     returns-2
+    cast-m
+    cast-n
     outside-requires
     refused-requires-3
     returns-3

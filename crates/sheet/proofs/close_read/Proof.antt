@@ -4,14 +4,20 @@ use mathlib.Core.Path.{_≡_, sym, ap, _∙_, subst}
 use native.Mathlib.Omega.{arith}
 use lib.ListN.{length}
 use borrow.Author.Needs.{needs}
-use Rattle.lines.specs.Lines.{closingLength}
-use Rattle.lines.proofs.Written.{enough}
+use mathlib.Core.Bool.{false}
+use Rattle.rule.specs.Refusal.{badItems, badBidders}
+use Rattle.lines.specs.Lines.{closingLength, closingBytes}
+use Rattle.lines.proofs.Written.{enough, bytes-are}
 use Rattle.auction.specs.declared.Closing.{Closing}
 use Rattle.sheet.specs.Steps.{readRefusal}
 use Rattle.sheet.proofs.Ends.{no-room, by-sealed, not-written, is-written}
 use Rattle.sheet.proofs.Longer.{most-items, most-bidders}
 use Rattle.sheet.proofs.close_read.Statement.{statement}
 use Rattle.sheet.proofs.close_read.Tie as tie
+
+-- counts in order make a closing sheet
+long : (m n : ℕ) → badItems m ≡ false → badBidders n ≡ false → closingBytes m n ≡ closingLength m n
+long m n e f = bytes-are m n (most-items m e) (most-bidders n f)
 
 closing-length-requires : tie.Need-closing-length-requires
 closing-length-requires c κs = search needs
@@ -22,8 +28,9 @@ refused-requires c κs = search needs
 returns : tie.Need-returns
 returns c =
     let a = c .before .before .before .before .before .before .args in
+    let p = c .before .before .before .before .before .before .pre in
     let less : length (a .out .now) < closingLength (a .items) (a .bidders) =
-    subst (λ (k : ℕ). length (a .out .now) < k) (c .before .before .closing-length .ensures) (c .before .if1 .taken) in
+    subst (λ (k : ℕ). length (a .out .now) < k) (c .before .before .closing-length .ensures ∙ long (a .items) (a .bidders) (p .0) (p .1)) (c .before .if1 .taken) in
     not-written (a .items) (a .bidders) (a .start .now) (a .bids .now) (a .out .now) (c .refused .result) 3 (omega arith)
     (no-room (a .items) (a .bidders) (a .start .now) (a .bids .now) (a .out .now) less)
     (c .refused .ensures .0) (c .refused .ensures .1)
@@ -36,7 +43,10 @@ refused-requires-2 c κs = search needs
 
 -- there is room
 room : (c : tie.Else1) → closingLength (c .before .before .before .before .before .args .items) (c .before .before .before .before .before .args .bidders) ≤ length (c .before .before .before .before .before .args .out .now)
-room c = subst (λ (k : ℕ). k ≤ length (c .before .before .before .before .before .args .out .now)) (c .before .closing-length .ensures) (c .if1 .left)
+room c =
+    let a = c .before .before .before .before .before .args in
+    let p = c .before .before .before .before .before .pre in
+    subst (λ (k : ℕ). k ≤ length (a .out .now)) (c .before .closing-length .ensures ∙ long (a .items) (a .bidders) (p .0) (p .1)) (c .if1 .left)
 
 -- the number is the sealed auction's
 number : (c : tie.After-sealed)
@@ -68,7 +78,7 @@ returns-3 c =
     let q = here .sealed .result in
     let none-given : q .refusal ≡ 0 = omega arith in
     is-written (a .items) (a .bidders) (a .start .now) (a .bids .now) (a .out .now) q _ _ (number here ∙ none-given) (here .sealed .ensures .0)
-    none-given (here .before .before .closing-length .ensures)
+    none-given (here .before .before .closing-length .ensures ∙ long (a .items) (a .bidders) (p .0) (p .1))
     (enough (a .items) (a .bidders) (length (a .out .now)) (most-items (a .items) (p .0)) (most-bidders (a .bidders) (p .1)) (room (here .before)))
     (c .before .before .write-closing .ensures .1)
 
