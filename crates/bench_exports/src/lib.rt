@@ -197,5 +197,7 @@ pub extern "C" fn bench_write_closing<'a>(
     ensures { λ r. ⌜ (r ≡ writes items bidders (length (now (out .entry))))
         × (now (out .exit) ≡ afterClosing items bidders raised lowered (now (prices .entry)) (now (options .entry)) (now (out .entry))) ⌝ }
 {
-    lines::write_closing(out, items, bidders, raised, lowered, prices, options)
+    let m = items as usize;
+    let n = bidders as usize;
+    lines::write_closing(out, m, n, raised, lowered, prices, options)
 }

@@ -7,11 +7,11 @@ use lib.Dec.{eqb}
 use borrow.Author.Tests.{eq-eqb, ne-eqb}
 use Rattle.sets.specs.Bit.{has}
 use Rattle.sets.proofs.Members.{empty-has}
+use Rattle.sets.proofs.Counting.{any-false}
 use Rattle.rule.specs.Sheet.{amount}
 use Rattle.rule.specs.Round.{Round, raised, lowered, closed, round, roundFalling}
 use Rattle.rule.specs.Refusal.{on, first}
 use Rattle.rule.proofs.Refusal.{passed, given}
-use Rattle.reports.proofs.Laws.{any-false}
 use Rattle.live.specs.Auction.{missing, aboveZero, reportsOf, risingSet, fallingSet}
 use Rattle.live.specs.Calls.{isFalling, isRising, clearNumber, atTop, endNumber, ruled, roundBy, settled, gives, refused, endingOf, endAnswer, endNext}
 use Rattle.live.specs.Tidy.{Ready}

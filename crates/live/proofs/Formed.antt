@@ -9,7 +9,7 @@ use lib.Dec.{eqb, leb}
 use lib.ListN.{length, getD, List·getD-eq-default}
 use borrow.Author.Tests.{le-leb, leb-true, eqb-true, eq-eqb}
 use Rattle.sets.specs.Count.{_⇒_}
-use Rattle.sets.proofs.Counting.{and-left, and-right, and-both, all-use, all-make, imp-use, imp-make, not-both, not-is}
+use Rattle.sets.proofs.Counting.{and-left, and-right, and-both, all-use, all-make, imp-use, imp-make, not-is}
 use Rattle.rule.specs.Sheet.{amount}
 use Rattle.rule.specs.Refusal.{badItems, badBidders, anyOver}
 use Rattle.rule.proofs.Refusal.{in-range, range-in, none-over, over-not}
@@ -17,10 +17,6 @@ use Rattle.reports.specs.Report.{isEmpty, beyond, unfit}
 use Rattle.live.specs.Auction.{place, hasReported, countsFit, pricesFit, unusedPrices, unusedPlaces, unusedBits, reportedFit, othersEmpty, roundsFit, closeFits, wellFormed}
 use Rattle.live.specs.Tidy.{Tidy}
 use Rattle.live.specs.declared.Auction.{Auction}
-
-pub or-right-false : (a b : Bool) → a || b ≡ false → b ≡ false
-or-right-false false b e = e
-or-right-false true b e = absurd (not-both true refl e)
 
 -- no price is above 4,095
 pub not-over : (xs : List ℕ) → anyOver xs ≡ false → (i : ℕ) → amount xs i ≤ 4095

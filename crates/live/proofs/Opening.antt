@@ -2,45 +2,19 @@
 use mathlib.Core.Path.{_≡_, ap, sym, _∙_}
 use mathlib.Core.Bool.{true, false}
 use mathlib.Core.List.{List, [], _∷_}
-use Prim.Native.Nat.{ℕ, zero, suc, _≤_, _<_}
+use Prim.Native.Nat.{ℕ, zero, suc}
 use lib.ListN.{length, replicate}
 use Rattle.sets.specs.Lists.{places}
 use Rattle.rule.specs.Refusal.{on, first, badItems, badBidders, badLength, anyOver}
-use Rattle.rule.proofs.Refusal.{passed, given, first-nil, under-range, over-range, range-in, exact, inexact}
+use Rattle.rule.proofs.Refusal.{passed, given, first-nil, exact, inexact}
 use Rattle.live.specs.declared.Phase.the-variants.{Rising}
 use Rattle.live.specs.Calls.{openNumber, opened, unopened, openAuction}
 use Rattle.live.specs.declared.Reply.{Reply}
 
--- ---- counts within 1 and 2
-
-pub few-items : (m : ℕ) → m < 1 → badItems m ≡ true
-unfolding badItems
-few-items = under-range 32
-
-pub many-items : (m : ℕ) → 1 ≤ m → 32 < m → badItems m ≡ true
-unfolding badItems
-many-items = over-range 32
-
-pub good-items : (m : ℕ) → 1 ≤ m → m ≤ 32 → badItems m ≡ false
-unfolding badItems
-good-items = range-in 32
-
-pub few-bidders : (n : ℕ) → n < 1 → badBidders n ≡ true
-unfolding badBidders
-few-bidders = under-range 64
-
-pub many-bidders : (n : ℕ) → 1 ≤ n → 64 < n → badBidders n ≡ true
-unfolding badBidders
-many-bidders = over-range 64
-
-pub good-bidders : (n : ℕ) → 1 ≤ n → n ≤ 64 → badBidders n ≡ false
-unfolding badBidders
-good-bidders = range-in 64
-
 -- ---- the number
 
 module _ (m n : ℕ) (start : List ℕ) where
-  by-number : (x : ℕ) → openNumber m n start ≡ suc x → openAuction m n start ≡ unopened (suc x)
+  pub by-number : (x : ℕ) → openNumber m n start ≡ suc x → openAuction m n start ≡ unopened (suc x)
   unfolding openAuction
   by-number x e = ap (λ (y : ℕ). elim y [ zero ↦ record { number = 0; next = opened m n start } | suc j ↦ unopened (suc j) ]) e
 

@@ -5,14 +5,14 @@ use mathlib.Core.Bool.{Bool, true, false, _&&_}
 use mathlib.Core.Logic.{_⊎_, inl, inr}
 use native.Mathlib.Omega.{arith}
 use lib.ListN.{length}
-use Rattle.sets.proofs.Counting.{lt-or-le, and-left, and-right, and-both, is-false, not-both}
+use Rattle.sets.proofs.Counting.{lt-or-le, and-left, and-right, and-both, is-false, not-both, or-right-false}
 use Rattle.reports.specs.Report.{saying, isEmpty, beyond, unfit}
 use Rattle.reports.specs.Places.{placeFits, allFit, anyMissing}
 use Rattle.reports.proofs.Laws.{empty-within}
 use Rattle.reports.proofs.Fitting.{fits-reported, fits-other, fits-make, all-fit-use, all-fit-make}
 use Rattle.live.specs.Auction.{place, hasReported, missing, unusedPlaces, unusedBits, reportedFit, othersEmpty}
 use Rattle.live.specs.declared.Auction.{Auction}
-use Rattle.live.proofs.Formed.{or-right-false, past-bidders-use, past-bidders-make, bits-make, reported-use, reported-make, others-use, others-make}
+use Rattle.live.proofs.Formed.{past-bidders-use, past-bidders-make, bits-make, reported-use, reported-make, others-use, others-make}
 
 pub missing-is : (r : Auction) → anyMissing (r .bidders) (r .reported) ≡ missing r
 unfolding anyMissing missing hasReported

@@ -1,6 +1,6 @@
 -- The numbers of the calls on a record: 11 and 12 come first in all but a read, and a call that gets a number hands the record back as it came. Assumes
 -- nothing.
-use Prim.Native.Nat.{ℕ, zero, suc, _≤_, _<_}
+use Prim.Native.Nat.{ℕ, zero, suc, _≤_}
 use mathlib.Core.Path.{_≡_, refl, sym, ap, _∙_}
 use mathlib.Core.Bool.{Bool, true, false, not}
 use mathlib.Core.List.{List, [], _∷_}
@@ -8,7 +8,7 @@ use native.Mathlib.Omega.{arith}
 use borrow.Author.Tests.{not-false}
 use Rattle.rule.specs.Demand.{Demand}
 use Rattle.rule.specs.Refusal.{Refusal, on, first, badBidder}
-use Rattle.rule.proofs.Refusal.{passed, given, first-nil, none, under-range, over-range, range-in, in-range}
+use Rattle.rule.proofs.Refusal.{passed, given, first-nil, none, in-range}
 use Rattle.reports.specs.Report.{unfit}
 use Rattle.live.specs.Auction.{hasReported, wellFormed}
 use Rattle.live.specs.Calls.{isClosed, clearNumber, reportNumber}
@@ -71,20 +71,14 @@ module _ (r : Auction) (b : ℕ) (d : Demand) (s : Stands r) where
   abbrev after-7 : List Refusal
   after-7 = on 13 (hasReported r b) ∷ on 8 (unfit (r .items) d) ∷ []
 
-  seven : badBidder (r .bidders) b ≡ true → 7 ≡ reportNumber r b d
+  pub seven : badBidder (r .bidders) b ≡ true → 7 ≡ reportNumber r b d
   unfolding reportNumber
   seven e = sym (given 7 (badBidder (r .bidders) b) after-7 e) ∙ later r (on 7 (badBidder (r .bidders) b) ∷ after-7) s
 
-  pub seven-low : b < 1 → 7 ≡ reportNumber r b d
-  seven-low l = seven (unfold badBidder in under-range (r .bidders) b l)
-
-  pub seven-high : 1 ≤ b → r .bidders < b → 7 ≡ reportNumber r b d
-  seven-high l h = seven (unfold badBidder in over-range (r .bidders) b l h)
-
-  module _ (l : 1 ≤ b) (h : b ≤ r .bidders) where
+  module _ (is-bidder : badBidder (r .bidders) b ≡ false) where
     past-7 : first after-7 ≡ reportNumber r b d
     unfolding reportNumber
-    past-7 = sym (passed 7 (badBidder (r .bidders) b) after-7 (unfold badBidder in range-in (r .bidders) b l h)) ∙ later r (on 7 (badBidder (r .bidders) b) ∷ after-7) s
+    past-7 = sym (passed 7 (badBidder (r .bidders) b) after-7 is-bidder) ∙ later r (on 7 (badBidder (r .bidders) b) ∷ after-7) s
 
     pub thirteen : hasReported r b ≡ true → 13 ≡ reportNumber r b d
     thirteen e = sym (given 13 (hasReported r b) (on 8 (unfit (r .items) d) ∷ []) e) ∙ past-7

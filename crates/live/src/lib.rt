@@ -1,15 +1,15 @@
 // The live auction (document 01: the live letting): the record, and what a call on it hands back.
+mod well_formed; // well_formed.rt: number 11
 
 ghost use mathlib.Core.Path.{_≡_};
 ghost use mathlib.Core.Bool.{true, _&&_, not, cond};
-ghost use Prim.Native.Nat.{_+_, _*_, _≤_, _<_};
-ghost use lib.Dec.{leb, eqb};
+ghost use Prim.Native.Nat.{_≤_, _<_};
+ghost use lib.Dec.{eqb};
 ghost use Rattle.sets.specs.Lists.{places};
-ghost use Rattle.rule.specs.Sheet.{priceSum};
 ghost use Rattle.rule.specs.Round.{raised, lowered, closed};
 ghost use Rattle.lines.specs.Lines.{writtenTo};
 ghost use Rattle.reports.specs.Report.{saying};
-ghost use Rattle.live.specs.Auction.{countsFit, pricesFit, unusedPrices, roundsFit, closeFits, risingSet, fallingSet, wellFormed};
+ghost use Rattle.live.specs.Auction.{pricesFit, risingSet, fallingSet};
 ghost use Rattle.live.specs.Calls.{zeros, unopened, openAuction, cleared, withReport, isClosed, reportNumber, report, clearNumber, clear, atTop, settled, endingOf, endAnswer, endNext};
 ghost use Rattle.live.specs.declared.Phase.the-variants.{Rising, Falling};
 ghost use Rattle.live.specs.declared.Kind.the-variants.{Raised, Lowered};
@@ -64,13 +64,6 @@ pub struct Step {
     pub next: Auction,
 }
 
-// a price where a sum is made
-fn wide(x: u16) -> u32
-    ensures { λ r. ⌜ (r ≡ x) × (r ≤ 65535) ⌝ }
-{
-    x as u32
-}
-
 // an item of the set that stands at 4,095
 fn is_top(on: bool, price: u16) -> bool
     ensures { λ r. ⌜ r ≡ on && eqb price 4095 ⌝ }
@@ -112,16 +105,10 @@ fn refused(number: u8) -> Reply
 pub fn open(items: usize, bidders: usize, start: &[u16]) -> Reply
     ensures { λ r. ⌜ r ≡ openAuction items bidders (now (start .entry)) ⌝ }
 {
-    if items < 1 {
+    if sets::outside(32, items) {
         return refused(1);
     }
-    if items > 32 {
-        return refused(1);
-    }
-    if bidders < 1 {
-        return refused(2);
-    }
-    if bidders > 64 {
+    if sets::outside(64, bidders) {
         return refused(2);
     }
     if start.len() != items {
@@ -148,90 +135,7 @@ pub fn open(items: usize, bidders: usize, start: &[u16]) -> Reply
 }
 
 impl Auction {
-    // ---- number 11, clause by clause: what a well formed record keeps
-
-    // not: a count is outside 1 or 2
-    fn counts_fit(self) -> bool
-        ensures { λ r. ⌜ r ≡ countsFit self ⌝ }
-    {
-        if self.items < 1 {
-            return false;
-        }
-        if self.items > 32 {
-            return false;
-        }
-        if self.bidders < 1 {
-            return false;
-        }
-        self.bidders <= 64
-    }
-
-    // not: a price exceeds 4,095
-    fn prices_fit(self) -> bool
-        ensures { λ r. ⌜ r ≡ pricesFit self ⌝ }
-    {
-        let prices = self.prices;
-        !prices::any_over(&prices)
-    }
-
-    // not: an unused place or bit is not zero. Prices past the items
-    fn unused_prices(self) -> bool
-        ensures { λ r. ⌜ r ≡ unusedPrices self ⌝ }
-    {
-        let mut i = self.items;
-        while i < 32 {
-            if self.prices[i] != 0 {
-                return false;
-            }
-            i += 1;
-        }
-        true
-    }
-
-    // the sum of the prices
-    fn price_sum(self) -> u32
-        requires { ⌜ self .items ≤ 32 ⌝ }
-        ensures { λ r. ⌜ (r ≡ priceSum (self .items) (self .prices)) × (r ≤ 65535 * self .items) ⌝ }
-    {
-        let mut sum: u32 = 0;
-        let mut k: usize = 0;
-        while k < self.items {
-            sum += wide(self.prices[k]);
-            k += 1;
-        }
-        sum
-    }
-
-    // while falling or closed: the rounds raised, and the sum of prices with the rounds lowered, are at most 4,095 × items
-    fn rounds_within(self, sum: u32) -> bool
-        requires { ⌜ (self .items ≤ 32) × (sum ≡ priceSum (self .items) (self .prices)) ⌝ }
-        ensures { λ r. ⌜ r ≡ leb (self .raised) (4095 * self .items) && leb (priceSum (self .items) (self .prices) + self .lowered) (4095 * self .items) ⌝ }
-    {
-        let most = 4095 * (self.items as u64);
-        if (self.raised as u64) > most {
-            return false;
-        }
-        (sum as u64) + (self.lowered as u64) <= most
-    }
-
-    // not: while rising, any round was lowered or the rounds raised exceed the sum of prices; while falling or closed, as above
-    fn rounds_fit(self) -> bool
-        requires { ⌜ self .items ≤ 32 ⌝ }
-        ensures { λ r. ⌜ r ≡ roundsFit (self .phase) self ⌝ }
-    {
-        let sum = self.price_sum();
-        let phase = self.phase;
-        match phase {
-            Phase::Rising => {
-                if self.lowered != 0 {
-                    return false;
-                }
-                self.raised <= sum
-            }
-            Phase::Falling => self.rounds_within(sum),
-            Phase::Closed => self.rounds_within(sum),
-        }
-    }
+    // ---- what the reports give, and the phase
 
     // the rising set of the reports
     fn rising_set(self) -> u32
@@ -264,48 +168,6 @@ impl Auction {
         }
     }
 
-    // not: if closed, a report is missing or a set is not empty
-    fn close_fits(self) -> bool
-        requires { ⌜ Tidy self ⌝ }
-        ensures { λ r. ⌜ r ≡ closeFits (self .phase) self ⌝ }
-    {
-        if !self.is_closed() {
-            return true;
-        }
-        if reports::misses(self.bidders, self.reported) {
-            return false;
-        }
-        if self.rising_set() != 0 {
-            return false;
-        }
-        self.falling_set() == 0
-    }
-
-    // number 11 does not apply
-    fn well_formed(self) -> bool
-        ensures { λ r. ⌜ r ≡ wellFormed self ⌝ }
-    {
-        if !self.counts_fit() {
-            return false;
-        }
-        if !self.prices_fit() {
-            return false;
-        }
-        if !self.unused_prices() {
-            return false;
-        }
-        // the clauses on reports, place by place in one loop
-        let sets = self.sets;
-        let nulls = self.nulls;
-        if !reports::all_fit(self.items, self.bidders, &sets, nulls, self.reported) {
-            return false;
-        }
-        if !self.rounds_fit() {
-            return false;
-        }
-        self.close_fits()
-    }
-
     // ---- report and clear
 
     // the number that turns a clear down, or 0: 11, 12
@@ -329,10 +191,7 @@ impl Auction {
         if number != 0 {
             return number;
         }
-        if bidder < 1 {
-            return 7;
-        }
-        if bidder > self.bidders {
+        if sets::outside(self.bidders, bidder) {
             return 7;
         }
         if sets::has_bidder(self.reported, bidder) {
@@ -547,12 +406,7 @@ impl Auction {
     {
         let sets = self.sets;
         let prices = self.prices;
-        assignment::first(
-            &sets,
-            self.nulls,
-            round::positive(&prices),
-            self.bidders as u32,
-        )
+        assignment::first(&sets, self.nulls, round::positive(&prices), self.bidders)
     }
 
     // writes the closing sheet's three lines to the front of the bytes, unless they are too few
@@ -562,12 +416,10 @@ impl Auction {
     {
         let names = self.names();
         let prices = self.prices;
-        let items = self.items as u32;
-        let bidders = self.bidders as u32;
         lines::write_closing(
             out,
-            items,
-            bidders,
+            self.items,
+            self.bidders,
             self.raised,
             self.lowered,
             &prices,

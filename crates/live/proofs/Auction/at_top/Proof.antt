@@ -10,9 +10,8 @@ use lib.ListN.{getD}
 use borrow.Author.Count.{below-none, below-more}
 use borrow.Author.Needs.{needs}
 use Rattle.sets.specs.Bit.{has}
-use Rattle.sets.proofs.Counting.{any-make}
+use Rattle.sets.proofs.Counting.{any-make, any-false}
 use Rattle.rule.specs.Sheet.{amount}
-use Rattle.reports.proofs.Laws.{any-false}
 use Rattle.live.specs.Calls.{atTop}
 use Rattle.live.proofs.Auction.at_top.Statement.{statement}
 use Rattle.live.proofs.Auction.at_top.Tie as tie

@@ -1,10 +1,8 @@
 -- `live::Auction::close_fits` meets its contract. Assumes nothing.
-use mathlib.Core.Path.{_≡_, sym, ap, _∙_}
+use mathlib.Core.Path.{_≡_, sym, _∙_}
 use mathlib.Core.Bool.{true, false}
-use Prim.Native.Nat.{ℕ}
-use lib.Dec.{eqb}
-use borrow.Author.Tests.{ne-eqb, eq-eqb, not-true, not-false}
-use Rattle.live.specs.Auction.{missing, risingSet}
+use borrow.Author.Tests.{not-true, not-false}
+use Rattle.live.specs.Auction.{missing}
 use Rattle.live.specs.Calls.{isClosed}
 use Rattle.live.proofs.Phases.{not-closed, closed-by}
 use Rattle.live.proofs.Places.{missing-is}
@@ -30,25 +28,14 @@ returns-2 c =
     let m : missing r ≡ true = sym (c .before .misses .ensures ∙ missing-is r) ∙ c .if2 .taken in
     simp m at (closed-by r (closed (c .before .before)))
 
-rising-set-requires : tie.Need-rising-set-requires
-rising-set-requires c κs = search needs
+both-empty-requires : tie.Need-both-empty-requires
+both-empty-requires c κs = search needs
 
 returns-3 : tie.Need-returns-3
 returns-3 c =
-    let r = c .before .before .before .before .before .before .args .self in
-    let m : missing r ≡ false = sym (c .before .before .before .misses .ensures ∙ missing-is r) ∙ c .before .before .if2 .left in
-    let s : eqb (risingSet r) 0 ≡ false = ap (λ (x : ℕ). eqb x 0) (sym (c .before .rising-set .ensures)) ∙ ne-eqb (c .before .rising-set .result) 0 (c .if3 .taken) in
-    simp (m, s) at (closed-by r (closed (c .before .before .before .before)))
-
-falling-set-requires : tie.Need-falling-set-requires
-falling-set-requires c κs = search needs
-
-returns-4 : tie.Need-returns-4
-returns-4 c =
-    let r = c .before .before .before .before .before .before .before .args .self in
-    let m : missing r ≡ false = sym (c .before .before .before .before .misses .ensures ∙ missing-is r) ∙ c .before .before .before .if2 .left in
-    let s : eqb (risingSet r) 0 ≡ true = ap (λ (x : ℕ). eqb x 0) (sym (c .before .before .rising-set .ensures)) ∙ eq-eqb (c .before .before .rising-set .result) 0 (c .before .if3 .left) in
-    ap (λ (x : ℕ). eqb x 0) (c .falling-set .ensures) ∙ (simp (m, s) at (closed-by r (closed (c .before .before .before .before .before))))
+    let r = c .before .before .before .before .before .args .self in
+    let m : missing r ≡ false = sym (c .before .before .misses .ensures ∙ missing-is r) ∙ c .before .if2 .left in
+    c .both-empty .ensures ∙ (simp m at (closed-by r (closed (c .before .before .before))))
 
 pub close-fits-spec : {M : Type 1} → statement M
 close-fits-spec =
@@ -58,7 +45,5 @@ close-fits-spec =
     returns
     misses-requires
     returns-2
-    rising-set-requires
-    returns-3
-    falling-set-requires
-    returns-4)
+    both-empty-requires
+    returns-3)

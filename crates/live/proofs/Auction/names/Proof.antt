@@ -6,7 +6,6 @@ use lib.ListN.{length, getD}
 use mir.Syntax.{w32}
 use mir.Val.{Fits}
 use borrow.Author.Needs.{needs}
-use Rattle.live.proofs.Formed.{bidders-range}
 use Rattle.live.proofs.Reading.{names-here}
 use Rattle.live.proofs.Auction.names.Statement.{statement}
 use Rattle.live.proofs.Auction.names.Tie as tie
@@ -14,19 +13,16 @@ use Rattle.live.proofs.Auction.names.Tie as tie
 positive-requires : tie.Need-positive-requires
 positive-requires c κs = search needs
 
-cast-first : tie.Need-cast-first
-cast-first c = omega (arith, bidders-range (c .before .before .before .before .before .before .args .self) (c .before .before .before .before .before .before .pre .counts) .1)
-
 first-requires : tie.Need-first-requires
 first-requires c κs = search needs
 
 returns : tie.Need-returns
 returns c =
-    let r = c .before .before .before .before .before .before .before .args .self in
+    let r = c .before .before .before .before .before .before .args .self in
     let long : length (r .sets) ≡ 64 = search needs in
     let fit : (b : ℕ) → Fits w32 (getD (r .sets) b 0) = λ b. search needs in
     let priced : length (r .prices) ≡ 32 = search needs in
-    c .first .ensures ∙ names-here r (c .before .before .before .before .before .before .before .pre) (record { long = long; fit = λ b. fit b .fits }) priced (c .before .before .positive .result) (c .before .before .positive .ensures)
+    c .first .ensures ∙ names-here r (c .before .before .before .before .before .before .pre) (record { long = long; fit = λ b. fit b .fits }) priced (c .before .positive .result) (c .before .positive .ensures)
 
 pub names-spec : {M : Type 1} → statement M
-names-spec = tie.close (tie.spec positive-requires cast-first first-requires returns)
+names-spec = tie.close (tie.spec positive-requires first-requires returns)

@@ -3,19 +3,12 @@ use Prim.Native.Nat.{ℕ}
 use mathlib.Core.List.{List}
 use native.Mathlib.Omega.{arith}
 use borrow.Author.Needs.{needs}
-use Rattle.live.proofs.Formed.{items-range, bidders-range}
 use Rattle.live.proofs.Reading.{told, left}
 use Rattle.live.proofs.Auction.written.Statement.{statement}
 use Rattle.live.proofs.Auction.written.Tie as tie
 
 names-requires : tie.Need-names-requires
 names-requires c κs = c .before .pre
-
-cast-items : tie.Need-cast-items
-cast-items c = record { fits = omega (arith, items-range (c .before .before .before .before .args .self) (c .before .before .before .before .pre .counts) .1) }
-
-cast-bidders : tie.Need-cast-bidders
-cast-bidders c = record { fits = omega (arith, bidders-range (c .before .before .before .before .before .args .self) (c .before .before .before .before .before .pre .counts) .1) }
 
 write-closing-requires : tie.Need-write-closing-requires
 write-closing-requires c κs = search needs
@@ -25,13 +18,13 @@ same-length c = search needs
 
 returns : tie.Need-returns
 returns c =
-    let r = c .before .before .before .before .before .before .before .before .before .before .before .args .self in
-    let t = c .before .before .before .before .before .before .before .before .before .before .before .pre in
-    let out : List ℕ = c .before .before .before .before .before .before .before .before .before .before .before .args .out .now in
+    let r = c .before .before .before .before .before .before .before .before .before .args .self in
+    let t = c .before .before .before .before .before .before .before .before .before .pre in
+    let out : List ℕ = c .before .before .before .before .before .before .before .before .before .args .out .now in
     let w = c .before .before .write-closing in
-    (told r t out (w .result) (w .ensures .0), left r t out (c .before .before .before .before .before .before .before .before .before .names .result) (w .last .0) (c .before .before .before .before .before .before .before .before .before .names .ensures) (w .ensures .1))
+    (told r t out (w .result) (w .ensures .0), left r t out (c .before .before .before .before .before .before .before .names .result) (w .last .0) (c .before .before .before .before .before .before .before .names .ensures) (w .ensures .1))
 
 pub written-spec : {M : Type 1} → statement M
 written-spec =
     tie.close
-    (tie.spec names-requires cast-items cast-bidders write-closing-requires same-length returns)
+    (tie.spec names-requires write-closing-requires same-length returns)

@@ -1,0 +1,193 @@
+-- Number 11 applied, clause by clause, by computation from the definitions alone. Each case is two records that differ in one number: the first, at the limit of
+-- the clause, is well formed, and the second is not. So a clause that is dropped or made weaker makes a case false, and so does one that is made stronger. One
+-- thing has no case of its own: a bit of an item set past the items is always also in a report that 8 refuses, in one that is not empty, or in an unused place.
+-- The checker takes modules by name, and this one comes first: the first error that a wrong definition meets stands here. Assumes nothing.
+use Prim.Native.Nat.{ℕ}
+use mathlib.Core.Path.{_≡_, refl}
+use mathlib.Core.Bool.{true, false}
+use mathlib.Core.List.{List, [], _∷_}
+use lib.ListN.{replicate, set}
+use Rattle.sets.specs.Count.{allBelow, anyBelow, count}
+use Rattle.sets.specs.Bit.{bit, isSet, has, setOf, each, any, size}
+use Rattle.sets.specs.Largest.{largestBelow, largest}
+use Rattle.sets.specs.Lists.{tabulate, places}
+use Rattle.sets.specs.Sum.{sum}
+use Rattle.rule.specs.Sheet.{amount, priceSum}
+use Rattle.rule.specs.Demand.{wants, nth}
+use Rattle.rule.specs.Excess.{bidders, crowded, inExcess, inPositiveExcess, excessDemand, positiveExcessDemand, excessSupply, positive}
+use Rattle.rule.specs.Refusal.{badItems, badBidders, anyOver}
+use Rattle.round.specs.Reports.{reports}
+use Rattle.reports.specs.Report.{isEmpty, beyond, unfit}
+use Rattle.live.specs.Auction.{place, hasReported, missing, reportsOf, aboveZero, risingSet, fallingSet, countsFit, pricesFit, unusedPrices, unusedPlaces, unusedBits, reportedFit, othersEmpty, roundsFit, closeFits, wellFormed}
+use Rattle.live.specs.declared.Auction.{Auction}
+use Rattle.live.specs.declared.Phase.{Phase}
+use Rattle.live.specs.declared.Phase.the-variants.{Rising, Falling, Closed}
+
+-- the definitions that the cases compute with
+computing : Unit {0}
+unfolding amount wants nth bidders crowded inExcess inPositiveExcess excessDemand positiveExcessDemand excessSupply positive allBelow anyBelow count bit isSet has setOf each any size largestBelow largest sum priceSum badItems badBidders anyOver tabulate places reports place hasReported missing isEmpty beyond unfit reportsOf aboveZero risingSet fallingSet countsFit pricesFit unusedPrices unusedPlaces unusedBits reportedFit othersEmpty roundsFit closeFits wellFormed
+computing = tt
+
+-- number 11 lets the first record pass, and turns the second down
+pub record Tells (sound damaged : Auction) : Type 0 where
+  pub passes : wellFormed sound ≡ true
+  pub refuses : wellFormed damaged ≡ false
+
+-- ---- the records: two items at 5 and 0 and three bidders, unless a case says otherwise
+
+-- items, bidders, prices, the reports' item sets, who says null, who has reported, phase, rounds raised and lowered
+abbrev pub holds : ℕ → ℕ → List ℕ → List ℕ → ℕ → ℕ → Phase → ℕ → ℕ → Auction
+holds m n p sets nulls reported ph ups downs =
+    record {
+      items = m;
+      bidders = n;
+      prices = places 32 p;
+      sets = places 64 sets;
+      nulls = nulls;
+      reported = reported;
+      phase = ph;
+      raised = ups;
+      lowered = downs;
+    }
+
+-- in the first round, with so many items and bidders
+abbrev pub counting : ℕ → ℕ → Auction
+counting m n = holds m n [] [] 0 0 Rising 0 0
+
+-- with these prices
+abbrev pub priced : List ℕ → Auction
+priced p = holds 2 3 p [] 0 0 Rising 0 0
+
+-- with these reports
+abbrev pub saying : List ℕ → ℕ → ℕ → Auction
+saying sets nulls reported = holds 2 3 (5 ∷ []) sets nulls reported Rising 0 0
+
+-- with these rounds
+abbrev pub rounds : Phase → ℕ → ℕ → Auction
+rounds ph ups downs = holds 2 3 (5 ∷ []) [] 0 0 ph ups downs
+
+-- closed, one item at this price and two bidders with these reports, after these rounds
+abbrev pub closing : List ℕ → List ℕ → ℕ → ℕ → ℕ → ℕ → Auction
+closing p sets nulls reported ups downs = holds 1 2 p sets nulls reported Closed ups downs
+
+-- ---- a count is outside 1 or 2
+
+pub items-low : Tells (counting 1 1) (counting 0 1)
+unfolding computing
+items-low = record { passes = refl; refuses = refl }
+
+pub items-high : Tells (counting 32 64) (counting 33 64)
+unfolding computing
+items-high = record { passes = refl; refuses = refl }
+
+pub bidders-low : Tells (counting 32 1) (counting 32 0)
+unfolding computing
+bidders-low = record { passes = refl; refuses = refl }
+
+pub bidders-high : Tells (counting 1 64) (counting 1 65)
+unfolding computing
+bidders-high = record { passes = refl; refuses = refl }
+
+-- ---- a price exceeds 4,095
+
+pub price-above : Tells (priced (0 ∷ 4095 ∷ [])) (priced (0 ∷ 4096 ∷ []))
+unfolding computing
+price-above = record { passes = refl; refuses = refl }
+
+-- ---- an unused place or bit is not zero: the first and the last of the unused prices, of the unused places, of those who say null and of those who reported
+
+pub price-past : Tells (priced (5 ∷ 1 ∷ [])) (priced (5 ∷ 1 ∷ 1 ∷ []))
+unfolding computing
+price-past = record { passes = refl; refuses = refl }
+
+pub price-last : Tells (holds 32 3 (replicate 32 1) [] 0 0 Rising 0 0) (holds 31 3 (replicate 32 1) [] 0 0 Rising 0 0)
+unfolding computing
+price-last = record { passes = refl; refuses = refl }
+
+pub set-past : Tells (saying (0 ∷ 0 ∷ 2 ∷ []) 0 4) (saying (0 ∷ 0 ∷ 2 ∷ 2 ∷ []) 0 4)
+unfolding computing
+set-past = record { passes = refl; refuses = refl }
+
+pub null-past : Tells (saying [] 4 4) (saying [] 12 4)
+unfolding computing
+null-past = record { passes = refl; refuses = refl }
+
+pub reported-past : Tells (saying [] 4 4) (saying [] 4 12)
+unfolding computing
+reported-past = record { passes = refl; refuses = refl }
+
+-- bidder 64's report of item 32 beside null: place 64 and its bits are used by 64 bidders, and unused by 63
+pub last-places : Tells (holds 32 64 [] (set (replicate 64 0) 63 2147483648) 9223372036854775808 9223372036854775808 Rising 0 0) (holds 32 63 [] (set (replicate 64 0) 63 2147483648) 9223372036854775808 9223372036854775808 Rising 0 0)
+unfolding computing
+last-places = record { passes = refl; refuses = refl }
+
+-- ---- the report of a bidder who has reported is one that 8 refuses: empty, or with an item beyond the count
+
+pub reported-empty : Tells (saying (1 ∷ []) 0 1) (saying (0 ∷ []) 0 1)
+unfolding computing
+reported-empty = record { passes = refl; refuses = refl }
+
+pub reported-beyond : Tells (saying (3 ∷ []) 0 1) (saying (7 ∷ []) 0 1)
+unfolding computing
+reported-beyond = record { passes = refl; refuses = refl }
+
+-- ---- that of one who has not is not empty
+
+pub unreported-set : Tells (saying (1 ∷ []) 0 1) (saying (1 ∷ []) 0 0)
+unfolding computing
+unreported-set = record { passes = refl; refuses = refl }
+
+pub unreported-null : Tells (saying [] 1 1) (saying [] 1 0)
+unfolding computing
+unreported-null = record { passes = refl; refuses = refl }
+
+-- ---- while rising, any round was lowered, or the rounds raised exceed the sum of prices
+
+pub rising-lowered : Tells (rounds Rising 0 0) (rounds Rising 0 1)
+unfolding computing
+rising-lowered = record { passes = refl; refuses = refl }
+
+pub rising-raised : Tells (rounds Rising 5 0) (rounds Rising 6 0)
+unfolding computing
+rising-raised = record { passes = refl; refuses = refl }
+
+-- ---- while falling or closed, rounds raised, or the sum of prices plus rounds lowered, exceed 4,095 × items
+
+pub falling-raised : Tells (rounds Falling 8190 0) (rounds Falling 8191 0)
+unfolding computing
+falling-raised = record { passes = refl; refuses = refl }
+
+pub falling-lowered : Tells (rounds Falling 0 8185) (rounds Falling 0 8186)
+unfolding computing
+falling-lowered = record { passes = refl; refuses = refl }
+
+-- the largest count that the record can hold: with the sum of prices it is more than 32 bits hold
+pub falling-most : Tells (rounds Falling 8190 8185) (rounds Falling 8190 4294967295)
+unfolding computing
+falling-most = record { passes = refl; refuses = refl }
+
+-- closed, both like the item, at 5, and null equally
+pub closed-raised : Tells (closing (5 ∷ []) (1 ∷ 1 ∷ []) 3 3 4095 0) (closing (5 ∷ []) (1 ∷ 1 ∷ []) 3 3 4096 0)
+unfolding computing
+closed-raised = record { passes = refl; refuses = refl }
+
+pub closed-lowered : Tells (closing (5 ∷ []) (1 ∷ 1 ∷ []) 3 3 0 4090) (closing (5 ∷ []) (1 ∷ 1 ∷ []) 3 3 0 4091)
+unfolding computing
+closed-lowered = record { passes = refl; refuses = refl }
+
+-- ---- if closed, a report is missing or a set is not empty
+
+-- bidder 2 has not reported; while falling that is no fault
+pub closed-missing : Tells (holds 1 2 [] (1 ∷ []) 0 1 Falling 0 0) (holds 1 2 [] (1 ∷ []) 0 1 Closed 0 0)
+unfolding computing
+closed-missing = record { passes = refl; refuses = refl }
+
+-- both want the item alone, which stands at 0: it would rise, and does not where one of them likes null as well
+pub closed-rising : Tells (closing [] (1 ∷ 1 ∷ []) 2 3 0 0) (closing [] (1 ∷ 1 ∷ []) 0 3 0 0)
+unfolding computing
+closed-rising = record { passes = refl; refuses = refl }
+
+-- nobody wants the item: at 1 it would fall, at 0 it does not
+pub closed-falling : Tells (closing [] [] 3 3 0 0) (closing (1 ∷ []) [] 3 3 0 0)
+unfolding computing
+closed-falling = record { passes = refl; refuses = refl }
