@@ -16,6 +16,7 @@ use Rattle.lines.specs.Lines.{writtenTo}
 use Rattle.digits.specs.Reading.{_>>=_, numberAt}
 use Rattle.lines.proofs.Stores.{sets-front}
 use Rattle.reports.specs.Report.{saying}
+use Rattle.live.proofs.Opening.{by-number}
 use Rattle.live.specs.Calls.{openNumber, opened, unopened, openAuction, report, clear, endNumber, roundBy, settled, Ending, gives, refused, endAnswer, endNext}
 use Rattle.live.specs.declared.Auction.{Auction}
 use Rattle.live.specs.declared.Reply.{Reply}
@@ -65,9 +66,9 @@ module _ (r : Auction) (line : List ℕ) (o : Order) (e : o ≡ orderOf line) wh
   unfolding told
   by p q = ap (toldBy r line) (sym e ∙ q)
 
-  pub told-open : (m n : ℕ) → o ≡ Open m n → (x : Reply) → x ≡ openAuction m n (startsOf line) → told r line ≡ opens x
+  pub told-open : (m n : ℕ) → o ≡ Open m n → (x : Reply) → x ≡ openAuction m n (startsOf line) → told r line ≡ opens r x
   unfolding toldBy
-  told-open m n q x f = by (Open m n) q ∙ ap opens (sym f)
+  told-open m n q x f = by (Open m n) q ∙ ap (opens r) (sym f)
 
   pub told-report : (b : ℕ) (null : Bool) (set : ℕ) → o ≡ Report b null set → (x : Reply) → x ≡ report r b (saying null set) → told r line ≡ replies x
   unfolding toldBy
@@ -146,13 +147,9 @@ module _ (m n : ℕ) (start : List ℕ) where
   unfolding openAuction
   accepted q = ap (λ (k : ℕ). elim k [ zero ↦ record { number = 0; next = opened m n start } | suc j ↦ unopened (suc j) ]) q
 
-  refusal : (j : ℕ) → openNumber m n start ≡ suc j → openAuction m n start ≡ unopened (suc j)
-  unfolding openAuction
-  refusal j q = ap (λ (k : ℕ). elim k [ zero ↦ record { number = 0; next = opened m n start } | suc i ↦ unopened (suc i) ]) q
-
   turned : (j : ℕ) → openNumber m n start ≡ suc j → openAuction m n start .number ≡ suc j
   unfolding unopened
-  turned j q = ap (λ (y : Reply). y .number) (refusal j q)
+  turned j q = ap (λ (y : Reply). y .number) (by-number m n start j q)
 
   in-count : openNumber m n start ≡ 0 → opened m n start .items ≤ 32
   unfolding openNumber opened badItems

@@ -4,14 +4,13 @@ use mathlib.Core.Path.{_≡_, refl, sym, ap, _∙_}
 use mathlib.Core.Bool.{true, false, false≢true}
 use mathlib.Core.List.{List}
 use mathlib.Core.Option.{Option, none, some, Option·getD}
-use native.Mathlib.Omega.{arith}
 use lib.Dec.{eqb}
 use lib.ListN.{length, getD}
 use borrow.Author.Tests.{eq-eqb, ne-eqb, le-leb, lt-leb}
 use Rattle.digits.specs.Reading.{_>>=_, numberAt, numberIn, asNumber}
 use Rattle.digits.specs.declared.Number.{Number}
 use Rattle.digits.specs.declared.Number.the-variants.{Is, Nothing}
-use Rattle.digits.proofs.Walking.{few-digits}
+use Rattle.digits.proofs.Walking.{was-number, was-nothing}
 use Rattle.console.specs.Orders.{starts, alone, startsAt, opening, reporting, orderOf}
 use Rattle.console.specs.Steps.{isRead, letterOrder}
 use Rattle.console.specs.declared.Order.{Order}
@@ -20,19 +19,11 @@ use Rattle.console.proofs.Prices.{not-read}
 
 -- ---- what was read, as the code has it
 
-was-is : (o : Option ℕ) (x : ℕ) → asNumber o ≡ Is x → o ≡ some x
-was-is none x e = absurd (let z : _≡_ {A = ℕ} 0 1 = cc in omega arith)
-was-is (some y) x e = ap {B = Option ℕ} some (cc)
-
-was-nothing : (o : Option ℕ) → asNumber o ≡ Nothing → o ≡ none
-was-nothing none e = refl
-was-nothing (some y) e = absurd (let z : _≡_ {A = ℕ} 0 1 = cc in omega arith)
-
 pub number-is : (n at : ℕ) (line : List ℕ) (r : Number) (x : ℕ) → n ≤ 8 → r ≡ asNumber (numberIn n line at) → r ≡ Is x → numberAt n line at ≡ some x
-number-is n at line r x l e q = sym (few-digits line at n l) ∙ was-is (numberIn n line at) x (sym e ∙ q)
+number-is n at line r x l e q = was-number n line at x l (sym e ∙ q)
 
 pub number-not : (n at : ℕ) (line : List ℕ) (r : Number) → n ≤ 8 → r ≡ asNumber (numberIn n line at) → r ≡ Nothing → numberAt n line at ≡ none
-number-not n at line r l e q = sym (few-digits line at n l) ∙ was-nothing (numberIn n line at) (sym e ∙ q)
+number-not n at line r l e q = was-nothing n line at l (sym e ∙ q)
 
 module _ (line : List ℕ) where
   -- ---- o

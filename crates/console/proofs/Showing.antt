@@ -1,16 +1,18 @@
 -- The answer to a read: the sheet stands behind the number's line. Assumes nothing.
 use Prim.Native.Nat.{ℕ, zero, suc, _+_, _*_, _-_, _/_, _%_, _≤_, _<_}
 use mathlib.Core.Path.{_≡_, refl, sym, ap, _∙_, subst}
-use mathlib.Core.Bool.{Bool, true, false, not}
+use mathlib.Core.Bool.{Bool, true, false, not, cond}
 use mathlib.Core.List.{List, [], _∷_, _++_, append-assoc, append-nil}
 use native.Mathlib.Omega.{arith}
+use lib.Dec.{ltb}
 use lib.ListN.{length, set, take, drop, replicate, length-append, length-drop, length-replicate, take-append-drop}
-use lib.Seq.{sets, sets-eq, set-comm, take-all, drop-drop}
+use lib.Seq.{sets, sets-eq, length-sets, set-comm, take-all, drop-drop}
 use borrow.Author.Tests.{le-ltb, not-false}
 use borrow.Rule.Slice.PartMut.{midOf, postOf, putMid}
 use Rattle.rule.specs.Refusal.{Refusal, on, first}
 use Rattle.rule.proofs.Refusal.{given, none}
-use Rattle.lines.specs.Lines.{newline, closingLength, writtenTo}
+use Rattle.lines.specs.Lines.{newline, numberText, numberLine, closingLength, writtenTo}
+use Rattle.lines.proofs.Numbered.{number-long, refusal-put}
 use Rattle.lines.proofs.Stores.{sets-then}
 use Rattle.lines.proofs.Lengths.{closing-length}
 use Rattle.live.specs.Auction.{wellFormed}
@@ -18,9 +20,8 @@ use Rattle.live.specs.Calls.{isClosed}
 use Rattle.live.specs.Reading.{tooFew, sheetOf, readNumber, readBytes}
 use Rattle.live.specs.declared.Auction.{Auction}
 use Rattle.live.proofs.Formed.{Formed, formed}
-use Rattle.console.specs.Answers.{numberText, numberLine, sheetText, reads}
+use Rattle.console.specs.Answers.{sheetText, reads}
 use Rattle.console.specs.Steps.{Puts}
-use Rattle.console.proofs.Writing.{number-long}
 
 -- ---- the number does not depend on the bytes, if they are enough for any sheet
 
@@ -118,7 +119,7 @@ module _ (r : Auction) (out after : List ℕ) (x : ℕ) (long : 274 ≤ length o
   reads-as e = ap (λ (y : ℕ). record { bytes = numberLine y ++ sheetText r y; next = r }) (sym (number-is e))
 
   module _ (e : x ≡ readNumber r lent-bytes) (got mid : List ℕ) (f : got ≡ readBytes r lent-bytes) (g : mid ≡ putMid 3 (length out - 3) out got)
-      (h : after ≡ sets mid 0 (numberLine x)) where
+      (line : after ≡ cond (ltb (length mid) 3) mid (sets mid 0 (numberLine x))) where
     -- turned down: the line alone
     pub shown-number : (x ≡ 0 → ⊥) → Puts (reads r) out after (record { length = 3; next = r })
     shown-number ne =
@@ -143,6 +144,9 @@ module _ (r : Auction) (out after : List ℕ) (x : ℕ) (long : 274 ≤ length o
 
         same : mid ≡ out
         same = g ∙ ap (putMid 3 (length out - 3) out) (f ∙ kept x e ne) ∙ unchanged out (omega arith)
+
+        h : after ≡ sets mid 0 (numberLine x)
+        h = refusal-put mid after x (omega (arith, ap length same, long)) line
 
     -- read: the sheet behind the line
     pub shown-sheet : x ≡ 0 → Puts (reads r) out after (record { length = 18 + 4 * r .items + 2 * r .bidders; next = r })
@@ -174,6 +178,9 @@ module _ (r : Auction) (out after : List ℕ) (x : ℕ) (long : 274 ≤ length o
         put-sheet =
             g ∙ ap (putMid 3 (length out - 3) out) gotten
             ∙ behind-line out (omega arith) (sheetOf r) (omega (arith, sheet-long, well .max-items, well .max-bidders))
+
+        h : after ≡ sets mid 0 (numberLine x)
+        h = refusal-put mid after x (omega (arith, ap length put-sheet, length-sets out 3 (sheetOf r), long)) line
 
   -- how much is counted without a wrap
   pub shown-small : x ≡ readNumber r lent-bytes → x ≡ 0 → (r .items ≤ 32) × (r .bidders ≤ 64)

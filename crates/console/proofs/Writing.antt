@@ -1,16 +1,17 @@
 -- The bytes of an answer, put one after the other. Assumes nothing.
-use Prim.Native.Nat.{ℕ, zero, suc, _+_, _*_, _/_, _%_, _≤_}
+use Prim.Native.Nat.{ℕ, zero, suc, _+_, _*_, _≤_}
 use mathlib.Core.Path.{_≡_, refl, sym, ap, _∙_, subst}
 use mathlib.Core.Bool.{Bool, cond}
 use mathlib.Core.List.{List, _++_}
 use native.Mathlib.Omega.{arith}
-use lib.Dec.{leb}
+use lib.Dec.{leb, ltb}
 use lib.ListN.{length, set, length-append}
 use lib.Seq.{sets, length-sets}
 use Rattle.rule.specs.Round.{raised, lowered, closed}
 use Rattle.digits.specs.Digits.{hex}
-use Rattle.lines.specs.Lines.{newline, pricesLine, hasRoom}
+use Rattle.lines.specs.Lines.{numberText, numberLine, pricesLine, hasRoom}
 use Rattle.lines.proofs.Stores.{sets-then}
+use Rattle.lines.proofs.Numbered.{text-long, number-long, two-put, refusal-put}
 use Rattle.digits.proofs.Digits.{hex-length}
 use Rattle.digits.proofs.Room.{written}
 use Rattle.lines.proofs.Lengths.{line-length}
@@ -18,31 +19,17 @@ use Rattle.lines.proofs.Written.{room-priced}
 use Rattle.live.specs.Calls.{Ending, gives, refused}
 use Rattle.live.specs.declared.Auction.{Auction}
 use Rattle.live.specs.declared.Reply.{Reply}
-use Rattle.console.specs.Answers.{numberText, numberLine, pricesText, roundText, Told, opens, replies, ends}
+use Rattle.console.specs.Answers.{pricesText, roundText, Told, opens, replies, ends}
 use Rattle.console.specs.Steps.{Puts}
 use Rattle.console.specs.declared.Answered.{Answered}
 
 -- ---- a number
 
-pub text-put : (out : List ℕ) (x : ℕ) → set (set out 0 (48 + x / 10)) 1 (48 + x % 10) ≡ sets out 0 (numberText x)
-unfolding numberText
-text-put out x = refl
-
-pub line-put : (out after : List ℕ) (x : ℕ) → after ≡ sets out 0 (numberText x) → set after 2 10 ≡ sets out 0 (numberLine x)
-unfolding numberLine numberText newline
-line-put out after x e = ap (λ (l : List ℕ). set l 2 10) e
-
-pub text-long : (x : ℕ) → length (numberText x) ≡ 2
-unfolding numberText
-text-long x = refl
-
-pub number-long : (x : ℕ) → length (numberLine x) ≡ 3
-unfolding numberLine numberText newline
-number-long x = refl
-
-pub reply-put : (o : Reply) (out after : List ℕ) → after ≡ sets out 0 (numberLine (o .number)) → Puts (replies o) out after (record { length = 3; next = o .next })
+pub reply-put : (o : Reply) (out after : List ℕ) → 274 ≤ length out → after ≡ cond (ltb (length out) 3) out (sets out 0 (numberLine (o .number)))
+    → Puts (replies o) out after (record { length = 3; next = o .next })
 unfolding replies
-reply-put o out after e = record { next = refl; counted = sym (number-long (o .number)); small = omega (arith, number-long (o .number)); put = e }
+reply-put o out after l e =
+    record { next = refl; counted = sym (number-long (o .number)); small = omega (arith, number-long (o .number)); put = refusal-put out after (o .number) (omega arith) e }
 
 -- ---- prices
 
@@ -58,50 +45,45 @@ prices-put r out after at l h e =
 
 -- ---- an opening
 
-opens-as : (o : Reply) → o .number ≡ 0 → opens o .bytes ≡ numberText 0 ++ pricesText (o .next)
-unfolding opens
-opens-as o e = ap (λ (x : ℕ). numberText x ++ elim x [ zero ↦ pricesText (o .next) | suc j ↦ newline ]) e
+module _ (r : Auction) (o : Reply) (out after : List ℕ) (a : Answered) where
+  -- by the number
+  abbrev by : ℕ → Told
+  by x = elim x [ zero ↦ record { bytes = numberText 0 ++ pricesText (o .next); next = o .next } | suc j ↦ record { bytes = numberLine (suc j); next = r } ]
 
-opens-not : (o : Reply) → (o .number ≡ 0 → ⊥) → opens o .bytes ≡ numberLine (o .number)
-unfolding opens numberLine
-opens-not o ne = go (o .number) ne
-  where
-    go : (x : ℕ) → (x ≡ 0 → ⊥) → numberText x ++ elim x [ zero ↦ pricesText (o .next) | suc j ↦ newline ] ≡ numberText x ++ newline
-    go zero n = absurd (n refl)
-    go (suc j) n = refl
+  opens-as : o .number ≡ 0 → opens r o ≡ record { bytes = numberText 0 ++ pricesText (o .next); next = o .next }
+  unfolding opens
+  opens-as e = ap by e
 
-opens-next : (o : Reply) → opens o .next ≡ o .next
-unfolding opens
-opens-next o = refl
+  opens-not : (x : ℕ) → x ≡ o .number → (x ≡ 0 → ⊥) → replies (record { number = x; next = r }) ≡ opens r o
+  unfolding opens replies
+  opens-not zero e n = absurd (n refl)
+  opens-not (suc j) e n = ap by e
 
-pub open-kept : (o : Reply) (out after : List ℕ) (a : Answered) → (o .number ≡ 0 → ⊥) → Puts (replies o) out after a → Puts (opens o) out after a
-unfolding replies
-open-kept o out after a ne p =
-    let e = sym (opens-not o ne) in
-    record {
-      next = p .next ∙ sym (opens-next o);
-      counted = p .counted ∙ ap length e;
-      small = subst (λ (l : List ℕ). length l ≤ 274) e (p .small);
-      put = p .put ∙ ap (sets out 0) e;
-    }
+  -- an opening that is turned down
+  pub open-kept : (o .number ≡ 0 → ⊥) → Puts (replies (record { number = o .number; next = r })) out after a → Puts (opens r o) out after a
+  open-kept ne p = subst (λ (t : Told). Puts t out after a) (opens-not (o .number) refl ne) p
 
-pub open-put : (o : Reply) (out mid after : List ℕ) (a : Answered) → o .number ≡ 0 → o .next .items ≤ 32 → mid ≡ sets out 0 (numberText 0)
-    → a ≡ record { length = 3 + 4 * o .next .items; next = o .next } → after ≡ sets mid 2 (pricesText (o .next)) → Puts (opens o) out after a
-open-put o out mid after a z l e q f =
-    let long : length (opens o .bytes) ≡ 3 + 4 * o .next .items =
-    ap length (opens-as o z) ∙ length-append (numberText 0) (pricesText (o .next)) ∙ (let p = prices-long (o .next) in omega (arith, text-long 0, p)) in
-    record {
-      next = ap (λ (b : Answered). b .next) q ∙ sym (opens-next o);
-      counted = ap (λ (b : Answered). b .length) q ∙ sym long;
-      small = omega (arith, long, l);
-      put =
-          f ∙ ap (λ (x : List ℕ). sets x 2 (pricesText (o .next))) e ∙ sets-then out 0 2 (numberText 0) (pricesText (o .next)) (omega (arith, text-long 0))
-          ∙ ap (sets out 0) (sym (opens-as o z));
-    }
+  -- and one that is not
+  pub open-put : (mid : List ℕ) → o .number ≡ 0 → o .next .items ≤ 32 → 274 ≤ length out → mid ≡ cond (ltb (length out) 2) out (sets out 0 (numberText 0))
+      → a ≡ record { length = 3 + 4 * o .next .items; next = o .next } → after ≡ sets mid 2 (pricesText (o .next)) → Puts (opens r o) out after a
+  open-put mid z l room two q f =
+      let e = two-put out mid 0 (omega arith) two in
+      let long : length (numberText 0 ++ pricesText (o .next)) ≡ 3 + 4 * o .next .items =
+      length-append (numberText 0) (pricesText (o .next)) ∙ (let p = prices-long (o .next) in omega (arith, text-long 0, p)) in
+      subst (λ (t : Told). Puts t out after a) (sym (opens-as z))
+      (record {
+        next = ap (λ (b : Answered). b .next) q;
+        counted = ap (λ (b : Answered). b .length) q ∙ sym long;
+        small = omega (arith, long, l);
+        put = f ∙ ap (λ (x : List ℕ). sets x 2 (pricesText (o .next))) e ∙ sets-then out 0 2 (numberText 0) (pricesText (o .next)) (omega (arith, text-long 0));
+      })
 
 -- ---- a round
 
-module _ (out a b after : List ℕ) (kind set : ℕ) (long : 12 ≤ length out) (e : a ≡ sets out 0 (numberText 0)) where
+module _ (out a b after : List ℕ) (kind set : ℕ) (long : 12 ≤ length out) (two : a ≡ cond (ltb (length out) 2) out (sets out 0 (numberText 0))) where
+  e : a ≡ sets out 0 (numberText 0)
+  e = two-put out a 0 (omega arith) two
+
   same-a : length a ≡ length out
   same-a = ap length e ∙ length-sets out 0 (numberText 0)
 

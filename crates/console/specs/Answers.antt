@@ -1,10 +1,10 @@
 -- What the console answers to a line, and the record it keeps. Assumes nothing: these are definitions.
-use Prim.Native.Nat.{ℕ, zero, suc, _+_, _/_, _%_}
-use mathlib.Core.List.{List, [], _∷_, _++_}
+use Prim.Native.Nat.{ℕ, zero, suc}
+use mathlib.Core.List.{List, [], _++_}
 use lib.ListN.{replicate}
 use Rattle.rule.specs.Round.{Round, raised, lowered, closed}
 use Rattle.digits.specs.Digits.{hex}
-use Rattle.lines.specs.Lines.{newline, pricesLine}
+use Rattle.lines.specs.Lines.{numberText, numberLine, pricesLine}
 use Rattle.reports.specs.Report.{saying}
 use Rattle.live.specs.Calls.{openAuction, report, clear, Ending, gives, refused, endAnswer, endNext}
 use Rattle.live.specs.Reading.{readNumber, sheetOf}
@@ -13,14 +13,6 @@ use Rattle.live.specs.declared.Reply.{Reply}
 use Rattle.console.specs.Orders.{orderOf, startsOf}
 use Rattle.console.specs.declared.Order.{Order}
 use Rattle.console.specs.declared.Order.the-variants.{Open, Report, End, Clear, Read, Unknown}
-
--- a number in 2 decimal digits: 00 where the call was not turned down
-unfoldable pub numberText : ℕ → List ℕ
-numberText x = (48 + x / 10) ∷ (48 + x % 10) ∷ []
-
--- the number alone on its line
-unfoldable pub numberLine : ℕ → List ℕ
-numberLine x = numberText x ++ newline
 
 -- the prices of the record's items, 4 digits each, to the line's end
 unfoldable pub pricesText : Auction → List ℕ
@@ -31,9 +23,13 @@ pub record Told : Type 0 where
   pub bytes : List ℕ
   pub next : Auction
 
--- an opening: its number, and the prices where it is 0
-unfoldable pub opens : Reply → Told
-opens o = record { bytes = numberText (o .number) ++ elim (o .number) [ zero ↦ pricesText (o .next) | suc j ↦ newline ]; next = o .next }
+-- an opening: 00 and the prices of the new record, which is kept; or its number alone, and the record r that was kept before stays
+unfoldable pub opens : (r : Auction) → Reply → Told
+opens r o =
+    elim (o .number) [
+      | zero ↦ record { bytes = numberText 0 ++ pricesText (o .next); next = o .next }
+      | suc j ↦ record { bytes = numberLine (suc j); next = r }
+    ]
 
 -- a report or a clear
 unfoldable pub replies : Reply → Told
@@ -58,7 +54,7 @@ reads r = let x : ℕ = readNumber r (replicate 271 0) in record { bytes = numbe
 
 -- an order on a record; 06 and no change for a line that is none
 unfoldable pub toldBy : Auction → (line : List ℕ) → Order → Told
-toldBy r line (Open m n) = opens (openAuction m n (startsOf line))
+toldBy r line (Open m n) = opens r (openAuction m n (startsOf line))
 toldBy r line (Report b null set) = replies (report r b (saying null set))
 toldBy r line End = ends (endAnswer r) (endNext r)
 toldBy r line Clear = replies (clear r)

@@ -17,11 +17,12 @@ ghost use lib.ListN.{length, getD};
 ghost use lib.Seq.{sets};
 ghost use Rattle.sets.specs.Lists.{places};
 ghost use Rattle.digits.specs.Digits.{hex};
+ghost use Rattle.lines.specs.Lines.{numberText};
 ghost use Rattle.digits.specs.Reading.{numberAt};
 ghost use Rattle.rule.specs.Round.{Round};
 ghost use Rattle.live.specs.Calls.{openAuction, endingOf, gives};
 ghost use Rattle.console.specs.Orders.{opening, reporting, orderOf, startsAt, startsOf};
-ghost use Rattle.console.specs.Answers.{numberText, numberLine, pricesText, opens, replies, ends, reads};
+ghost use Rattle.console.specs.Answers.{pricesText, opens, replies, ends, reads};
 ghost use Rattle.console.specs.Steps.{letterOrder, isRead, Puts, toldTo, Answers};
 
 // The order of a line. The starting prices of an opening stay in the line.
@@ -207,30 +208,12 @@ pub fn order_of(line: &[u8]) -> Order
     letter(first)
 }
 
-// A number in 2 decimal digits.
-fn put_text(out: &mut [u8], number: u8)
-    requires { ⌜ 2 ≤ length (now out) ⌝ }
-    ensures { λ _. ⌜ now (out .exit) ≡ sets (now (out .entry)) 0 (numberText number) ⌝ }
-{
-    out[0] = b'0' + number / 10;
-    out[1] = b'0' + number % 10;
-}
-
-// A number alone on its line.
-fn put_line(out: &mut [u8], number: u8)
-    requires { ⌜ 3 ≤ length (now out) ⌝ }
-    ensures { λ _. ⌜ now (out .exit) ≡ sets (now (out .entry)) 0 (numberLine number) ⌝ }
-{
-    put_text(out, number);
-    out[2] = b'\n';
-}
-
 // The answer to a report or a clear.
 fn replied(out: &mut [u8], reply: Reply) -> Answered
     requires { ⌜ 274 ≤ length (now out) ⌝ }
     ensures { λ r. ⌜ Puts (replies reply) (now (out .entry)) (now (out .exit)) r ⌝ }
 {
-    put_line(out, reply.number);
+    lines::write_refusal(out, reply.number);
     let next = reply.next;
     Answered { length: 3, next }
 }
@@ -249,15 +232,16 @@ fn priced(out: &mut [u8], at: usize, next: Auction) -> Answered
     }
 }
 
-// The answer to an opening.
-fn opened(out: &mut [u8], reply: Reply) -> Answered
+// The answer to an opening. One that is turned down leaves the record that is held.
+fn opened(out: &mut [u8], held: Auction, reply: Reply) -> Answered
     requires { ⌜ (274 ≤ length (now out)) × (reply .number ≡ 0 → reply .next .items ≤ 32) ⌝ }
-    ensures { λ r. ⌜ Puts (opens reply) (now (out .entry)) (now (out .exit)) r ⌝ }
+    ensures { λ r. ⌜ Puts (opens held reply) (now (out .entry)) (now (out .exit)) r ⌝ }
 {
-    if reply.number != 0 {
-        return replied(out, reply);
+    let number = reply.number;
+    if number != 0 {
+        return replied(out, Reply { number, next: held });
     }
-    put_text(out, 0);
+    lines::write_two(out, 0);
     priced(out, 2, reply.next)
 }
 
@@ -266,7 +250,7 @@ fn put_round(out: &mut [u8], kind: u32, set: u32)
     requires { ⌜ 12 ≤ length (now out) ⌝ }
     ensures { λ _. ⌜ now (out .exit) ≡ sets (now (out .entry)) 0 (numberText 0 ++ (hex 2 kind ++ hex 8 set)) ⌝ }
 {
-    put_text(out, 0);
+    lines::write_two(out, 0);
     digits::write_number(out, 2, 2, kind);
     digits::write_number(out, 4, 8, set);
 }
@@ -303,7 +287,7 @@ fn shown(out: &mut [u8], held: Auction) -> Answered
     ensures { λ r. ⌜ Puts (reads held) (now (out .entry)) (now (out .exit)) r ⌝ }
 {
     let number = held.read(&mut out[3..]);
-    put_line(out, number);
+    lines::write_refusal(out, number);
     if number != 0 {
         return Answered {
             length: 3,
@@ -328,7 +312,7 @@ pub fn answer(held: Auction, line: &[u8], out: &mut [u8]) -> Answered
     }
     let o = order_of(line);
     match o {
-        Order::Open(items, bidders) => opened(out, open_by(line, items, bidders)),
+        Order::Open(items, bidders) => opened(out, held, open_by(line, items, bidders)),
         Order::Report(bidder, null, set) => replied(out, held.report(bidder, null, set)),
         Order::End => ended(out, held.end()),
         Order::Clear => replied(out, held.clear()),

@@ -67,7 +67,7 @@ returns-2 : tie.Need-returns-2
 returns-2 c =
     let a = c .before .before .before .before .before .before .before .before .before .before .before .before .args in
     let x = c .before .before .opened in
-    answers (a .held) (a .line .now) (a .out .now) (x .last .0) (x .result) (opens (c .before .before .before .open-by .result)) (c .before .before .before .before .before .before .before .before .before .if1 .left)
+    answers (a .held) (a .line .now) (a .out .now) (x .last .0) (x .result) (opens (a .held) (c .before .before .before .open-by .result)) (c .before .before .before .before .before .before .before .before .before .if1 .left)
     (told-open (a .held) (a .line .now) (c .before .before .before .before .before .before .before .before .order-of .result) (c .before .before .before .before .before .before .before .before .order-of .ensures) (c .before .before .before .before .before .before .o .given .0 .0) (c .before .before .before .before .before .before .o .given .0 .1 .0) (c .before .before .before .before .before .before .o .given .1) (c .before .before .before .open-by .result) (c .before .before .before .open-by .ensures))
     (x .ensures)
 

@@ -4,7 +4,8 @@ use native.Mathlib.Omega.{arith}
 use lib.ListN.{length}
 use lib.Seq.{length-sets}
 use borrow.Author.Needs.{needs}
-use Rattle.console.specs.Answers.{numberText}
+use Rattle.lines.specs.Lines.{numberText}
+use Rattle.lines.proofs.Numbered.{two-put}
 use Rattle.console.proofs.Writing.{open-kept, open-put}
 use Rattle.console.proofs.opened.Statement.{statement}
 use Rattle.console.proofs.opened.Tie as tie
@@ -17,18 +18,18 @@ same-length c = search needs
 
 returns : tie.Need-returns
 returns c =
-    let a = c .before .before .before .before .before .before .before .args in
+    let a = c .before .before .before .before .before .before .args in
     let p = c .before .before .replied in
-    open-kept (a .reply) (a .out .now) (p .last .0) (p .result) (c .before .before .before .before .if1 .taken) (p .ensures)
+    open-kept (a .held) (a .reply) (a .out .now) (p .last .0) (p .result) (c .before .before .before .before .if1 .taken) (p .ensures)
 
-put-text-requires : tie.Need-put-text-requires
-put-text-requires c κs = search needs
+write-two-requires : tie.Need-write-two-requires
+write-two-requires c κs = search needs
 
 priced-requires : tie.Need-priced-requires
 priced-requires c κs =
-    let s = c .before .before .before .before .before .before .before .before in
-    let t = c .before .before .before .put-text in
-    let e : length (t .last .0) ≡ length (s .args .out .now) = ap length (t .ensures) ∙ length-sets (s .args .out .now) 0 (numberText 0) in
+    let s = c .before .before .before .before .before .before .before in
+    let t = c .before .before .before .write-two in
+    let e : length (t .last .0) ≡ length (s .args .out .now) = ap length (two-put (s .args .out .now) (t .last .0) 0 (omega (arith, s .pre .0)) (t .ensures)) ∙ length-sets (s .args .out .now) 0 (numberText 0) in
     (s .pre .1 (c .before .before .before .before .before .if1 .left), omega arith, omega (arith, e, s .pre .0))
 
 same-length-2 : tie.Need-same-length-2
@@ -36,11 +37,11 @@ same-length-2 c = search needs
 
 returns-2 : tie.Need-returns-2
 returns-2 c =
-    let s = c .before .before .before .before .before .before .before .before .before .before .before in
+    let s = c .before .before .before .before .before .before .before .before .before .before in
     let z = c .before .before .before .before .before .before .before .before .if1 .left in
-    let t = c .before .before .before .before .before .before .put-text in
+    let t = c .before .before .before .before .before .before .write-two in
     let p = c .before .before .priced in
-    open-put (s .args .reply) (s .args .out .now) (t .last .0) (p .last .0) (p .result) z (s .pre .1 z) (t .ensures) (p .ensures .0) (p .ensures .1)
+    open-put (s .args .held) (s .args .reply) (s .args .out .now) (p .last .0) (p .result) (t .last .0) z (s .pre .1 z) (s .pre .0) (t .ensures) (p .ensures .0) (p .ensures .1)
 
 pub opened-spec : {M : Type 1} → statement M
 opened-spec =
@@ -49,7 +50,7 @@ opened-spec =
     replied-requires
     same-length
     returns
-    put-text-requires
+    write-two-requires
     priced-requires
     same-length-2
     returns-2)

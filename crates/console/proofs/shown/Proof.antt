@@ -11,7 +11,7 @@ use Rattle.console.proofs.shown.Statement.{statement}
 use Rattle.console.proofs.shown.Tie as tie
 
 small : (c : tie.Else1) → (c .before .before .before .before .before .before .before .before .before .before .args .held .items ≤ 32) × (c .before .before .before .before .before .before .before .before .before .before .args .held .bidders ≤ 64)
-small c = shown-small (c .before .before .before .before .before .before .before .before .before .before .args .held) (c .before .before .before .before .before .before .before .before .before .before .args .out .now) (c .before .before .before .put-line .last .0) (c .before .before .before .before .before .before .before .read .result) (c .before .before .before .before .before .before .before .before .before .before .pre) (c .before .before .before .before .before .before .before .read .ensures .0) (c .if1 .left)
+small c = shown-small (c .before .before .before .before .before .before .before .before .before .before .args .held) (c .before .before .before .before .before .before .before .before .before .before .args .out .now) (c .before .before .before .write-refusal .last .0) (c .before .before .before .before .before .before .before .read .result) (c .before .before .before .before .before .before .before .before .before .before .pre) (c .before .before .before .before .before .before .before .read .ensures .0) (c .if1 .left)
 
 sub-read : tie.Need-sub-read
 sub-read c = search needs
@@ -25,8 +25,8 @@ part-read-end c = search needs
 read-requires : tie.Need-read-requires
 read-requires c κs = search needs
 
-put-line-requires : tie.Need-put-line-requires
-put-line-requires c κs = search needs
+write-refusal-requires : tie.Need-write-refusal-requires
+write-refusal-requires c κs = search needs
 
 same-length : tie.Need-same-length
 same-length c = search needs
@@ -36,8 +36,8 @@ returns c =
     let r = c .before .before .before .before .before .before .before .before .before .before .args .held in
     let out : List ℕ = c .before .before .before .before .before .before .before .before .before .before .args .out .now in
     let w = c .before .before .before .before .before .before .before .read in
-    shown-number r out (c .before .before .before .put-line .last .0) (w .result) (c .before .before .before .before .before .before .before .before .before .before .pre) (w .ensures .0) (w .last .1 .0) (putMid 3 (length out - 3) out (w .last .1 .0)) (w .ensures .1) refl
-    (c .before .before .before .put-line .ensures) (c .if1 .taken)
+    shown-number r out (c .before .before .before .write-refusal .last .0) (w .result) (c .before .before .before .before .before .before .before .before .before .before .pre) (w .ensures .0) (w .last .1 .0) (putMid 3 (length out - 3) out (w .last .1 .0)) (w .ensures .1) refl
+    (c .before .before .before .write-refusal .ensures) (c .if1 .taken)
 
 mul-t5 : tie.Need-mul-t5
 mul-t5 c = record { fits = omega (arith, small (c .before) .0) }
@@ -59,8 +59,8 @@ returns-2 c =
     let r = c .before .before .before .before .before .before .before .before .before .before .before .before .args .held in
     let out : List ℕ = c .before .before .before .before .before .before .before .before .before .before .before .before .args .out .now in
     let w = c .before .before .before .before .before .before .before .before .before .read in
-    shown-sheet r out (c .before .before .before .before .before .put-line .last .0) (w .result) (c .before .before .before .before .before .before .before .before .before .before .before .before .pre) (w .ensures .0) (w .last .1 .0) (putMid 3 (length out - 3) out (w .last .1 .0)) (w .ensures .1) refl
-    (c .before .before .before .before .before .put-line .ensures) (c .before .before .if1 .left)
+    shown-sheet r out (c .before .before .before .before .before .write-refusal .last .0) (w .result) (c .before .before .before .before .before .before .before .before .before .before .before .before .pre) (w .ensures .0) (w .last .1 .0) (putMid 3 (length out - 3) out (w .last .1 .0)) (w .ensures .1) refl
+    (c .before .before .before .before .before .write-refusal .ensures) (c .before .before .if1 .left)
 
 pub shown-spec : {M : Type 1} → statement M
 shown-spec =
@@ -70,7 +70,7 @@ shown-spec =
     part-read-start
     part-read-end
     read-requires
-    put-line-requires
+    write-refusal-requires
     same-length
     returns
     mul-t5
