@@ -1,0 +1,62 @@
+// The calls of the live auction and a bidder's line, run on every number that turns them down, and on every kind of damaged record. The file `stdin` has a call
+// a line: a letter, what is asked in words, and the arguments. The program writes the words again, and what was given. What must be given stands in the file
+// `stdout`, which was written from document 01 and not from a run.
+mod asked; // asked.rt: a line of the input
+mod calls; // calls.rt: open, report, end, clear and read
+mod line; // line.rt: a bidder's line
+mod record; // record.rt: records compared
+mod say; // say.rt: numbers and answers as text
+
+use live::Auction;
+
+// What a line leaves, and whether the input goes on.
+struct Turn {
+    next: Auction,
+    more: bool,
+}
+
+// One line. A record that is given, `d`, is tried in all four calls; any other line is words alone.
+fn answer(r: Auction, words: &[u8; 48], line: &[u8; 88]) -> Auction {
+    asked::words(words);
+    let letter = words[0];
+    match letter {
+        b'o' => calls::open(line),
+        b'r' => calls::report(r, line),
+        b'e' => calls::end(r),
+        b'c' => calls::clear(r),
+        b's' => calls::read(r, line),
+        b'd' => calls::all(asked::record(line)),
+        b'l' => line::ask(r, line),
+        _ => r,
+    }
+}
+
+fn take_turn(r: Auction) -> Turn {
+    let mut words = [0u8; 48];
+    let mut line = [0u8; 88];
+    io::read_full(0, &mut words);
+    let got = io::read_full(0, &mut line);
+    if got < 88 {
+        return Turn {
+            next: r,
+            more: false,
+        };
+    }
+    let next = answer(r, &words, &line);
+    io::write_all(1, b"\n");
+    Turn { next, more: true }
+}
+
+// The turns are counted down, as a proved loop has to end.
+fn main() {
+    let mut r = record::zeros();
+    let mut turns: u32 = 1000;
+    while turns > 0 {
+        let t = take_turn(r);
+        if !t.more {
+            return;
+        }
+        r = t.next;
+        turns -= 1;
+    }
+}

@@ -1,0 +1,57 @@
+// Numbers and answers as text.
+use live::Ended;
+use live::Kind;
+
+// A number of document 01 in two digits.
+pub(crate) fn number(n: u8) {
+    io::write_all(1, b" ");
+    if n < 10 {
+        io::write_all(1, b"0");
+    }
+    io::print_decimal(1, n as u64);
+}
+
+fn kind(k: Kind) {
+    match k {
+        Kind::Raised => {
+            io::write_all(1, b" raised ");
+        }
+        Kind::Lowered => {
+            io::write_all(1, b" lowered ");
+        }
+    }
+}
+
+fn moved(k: Kind, set: u32) {
+    kind(k);
+    io::print_decimal(1, set as u64);
+}
+
+// What ending a round gives.
+pub(crate) fn ended(e: Ended) {
+    match e {
+        Ended::Moved(k, s) => moved(k, s),
+        Ended::Closed => {
+            io::write_all(1, b" closed");
+        }
+        Ended::Refused(n) => number(n),
+    }
+}
+
+// The record handed back is as the one given, or not.
+pub(crate) fn kept(same: bool) {
+    if same {
+        io::write_all(1, b" kept");
+    } else {
+        io::write_all(1, b" changed");
+    }
+}
+
+// The record beside an opening.
+pub(crate) fn zeros(all: bool) {
+    if all {
+        io::write_all(1, b" zeros");
+    } else {
+        io::write_all(1, b" a record");
+    }
+}
