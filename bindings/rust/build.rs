@@ -1,4 +1,4 @@
-//! Finds the static library of the proved code: in the folder that DEWGNEISS_LIB names, or where `rt staticlib dewgneiss`
+//! Finds the static library of the proved code: in the folder that DEWGNEISS_LIB names, or where `bindings/library dewgneiss`
 //! leaves it in this repository.
 
 use std::path::PathBuf;
@@ -13,7 +13,7 @@ fn main() {
     let library = folder.join("libdewgneiss.a");
     println!("cargo:rerun-if-changed={}", library.display());
     if !library.exists() {
-        eprintln!("there is no {}: run `rt staticlib dewgneiss` at the root of the repository first", library.display());
+        eprintln!("there is no {}: run bindings/library dewgneiss at the root of the repository first", library.display());
         std::process::exit(1);
     }
     println!("cargo:rustc-link-search=native={}", folder.display());

@@ -3,6 +3,9 @@
 use crate::{BIDDERS, ITEMS, TOP};
 use std::fmt;
 
+/// The bytes that a table may have. The largest, 65 rows of 32 amounts, takes about a fifth of that.
+pub const LONGEST_TABLE: usize = 65_536;
+
 /// What is wrong with a table, and where: lines and columns as the spreadsheet counts them, from 1.
 #[derive(Clone, Debug, PartialEq, Eq)]
 pub struct Fault {
@@ -29,6 +32,16 @@ fn separator(text: &str) -> char {
     [';', '\t'].into_iter().find(|&c| first.contains(c)).unwrap_or(',')
 }
 
+/// A cell as it is named in a message: its start, with nothing in it that a terminal would act on.
+fn named(cell: &str) -> String {
+    let start: String = cell.chars().take(20).flat_map(char::escape_debug).collect();
+    if cell.chars().count() > 20 {
+        start + "…"
+    } else {
+        start
+    }
+}
+
 /// An amount from 0 to 4,095.
 fn amount(cell: &str, line: usize, column: usize) -> Result<u16, Fault> {
     let bare = cell.trim();
@@ -38,16 +51,19 @@ fn amount(cell: &str, line: usize, column: usize) -> Result<u16, Fault> {
         return fault(line, column, format!("no {what}: write 0 for none"));
     }
     if !bare.bytes().all(|b| b.is_ascii_digit()) {
-        return fault(line, column, format!("'{bare}' is no {what}: whole crowns are wanted, digits only"));
+        return fault(line, column, format!("'{}' is no {what}: whole crowns are wanted, digits only", named(bare)));
     }
     match bare.parse::<u16>() {
         Ok(value) if value <= TOP => Ok(value),
-        _ => fault(line, column, format!("{what} {bare} is above 4,095")),
+        _ => fault(line, column, format!("{what} {} is above 4,095", named(bare))),
     }
 }
 
 /// The bid sheet of a table.
 pub fn bid_sheet(table: &[u8]) -> Result<String, Fault> {
+    if table.len() > LONGEST_TABLE {
+        return fault(1, 1, "this is more than a table of 32 pans and 64 rakers can be: at most 65,536 bytes are read");
+    }
     let Ok(text) = std::str::from_utf8(table) else {
         return fault(1, 1, "this is not text: save the table as CSV in UTF-8");
     };

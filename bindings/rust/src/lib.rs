@@ -27,7 +27,7 @@ pub mod table;
 mod turn;
 
 pub use refusal::Refusal;
-pub use turn::{turn, Mismatch};
+pub use turn::{turn, NoTurn};
 
 /// The most items.
 pub const ITEMS: usize = 32;
@@ -35,6 +35,8 @@ pub const ITEMS: usize = 32;
 pub const BIDDERS: usize = 64;
 /// The highest price and bid.
 pub const TOP: u16 = 4095;
+/// The bytes of the longest bid sheet.
+pub const LONGEST_SHEET: usize = 8_389;
 /// The bytes of the longest closing sheet.
 pub const LONGEST_CLOSING: usize = 271;
 

@@ -1,34 +1,52 @@
 //! The prices at the turn, which no closing sheet has. Plain Rust, and not proved: what comes out is held to the proved close.
 
-use crate::{sealed, Closing};
+use crate::{sealed, Closing, Refusal};
 use std::fmt;
 
-/// The prices found for the turn do not fit the proved close.
+/// Why there are no prices at the turn.
 #[derive(Clone, Copy, Debug, PartialEq, Eq)]
-pub struct Mismatch;
+pub enum NoTurn {
+    /// The arguments are no sheet: the sealed auction refuses them.
+    Refused(Refusal),
+    /// The sheet closes in another way than the closing says, or the prices found do not fit it.
+    Mismatch,
+}
 
-impl fmt::Display for Mismatch {
-    fn fmt(&self, f: &mut fmt::Formatter<'_>) -> fmt::Result {
-        write!(f, "the rents found for the turn do not fit the proved closing: please report this sheet")
+impl From<Refusal> for NoTurn {
+    fn from(refusal: Refusal) -> NoTurn {
+        NoTurn::Refused(refusal)
     }
 }
 
-impl std::error::Error for Mismatch {}
+impl fmt::Display for NoTurn {
+    fn fmt(&self, f: &mut fmt::Formatter<'_>) -> fmt::Result {
+        match self {
+            NoTurn::Refused(refusal) => refusal.fmt(f),
+            NoTurn::Mismatch => {
+                write!(f, "the rents at the turn do not fit this closing: it is not the sheet's, or please report the sheet")
+            }
+        }
+    }
+}
 
-/// The prices at the turn of a sheet that closes so.
+impl std::error::Error for NoTurn {}
+
+/// The prices at the turn of the sheet that closes so. The closing has a price for each item and a name for each bidder: the counts are taken from there.
 ///
-/// The rises from `start` are those of an auction from 0 in which every bid is less by the start; bids below that count as 0.
-/// From the turn the auction must lower as often and close in the same way, and the largest rise must be the rounds raised.
-pub fn turn(start: &[u16], bids: &[u16], closing: &Closing) -> Result<Vec<u16>, Mismatch> {
-    let items = start.len();
-    let bidders = bids.len() / items;
-    let run = |start: &[u16], bids: &[u16]| sealed(items as u32, bidders as u32, start, bids).map_err(|_| Mismatch);
+/// Refused with 1, 2, 3, 4 or 5, in this order, as [`sealed`] is. The rises from `start` are those of an auction from 0 in which every bid is less by the
+/// start; bids below that count as 0. From the turn the auction must lower as often and close in the same way, and the largest rise must be the rounds raised.
+pub fn turn(start: &[u16], bids: &[u16], closing: &Closing) -> Result<Vec<u16>, NoTurn> {
+    let count = |places: usize| u32::try_from(places).unwrap_or(u32::MAX);
+    let (items, bidders) = (count(closing.prices.len()), count(closing.names.len()));
+    if sealed(items, bidders, start, bids)? != *closing {
+        return Err(NoTurn::Mismatch);
+    }
     let beyond: Vec<u16> =
-        bids.chunks(items).flat_map(|line| line.iter().zip(start).map(|(b, s)| b.saturating_sub(*s))).collect();
-    let rises = run(&vec![0; items], &beyond)?.prices;
+        bids.chunks(start.len()).flat_map(|line| line.iter().zip(start).map(|(b, s)| b.saturating_sub(*s))).collect();
+    let rises = sealed(items, bidders, &vec![0; start.len()], &beyond)?.prices;
     let turn: Vec<u16> = start.iter().zip(&rises).map(|(s, up)| s + up).collect();
-    let from_turn = run(&turn, bids)?;
+    let from_turn = sealed(items, bidders, &turn, bids)?;
     let largest = rises.iter().max().copied().unwrap_or(0);
     let fits = from_turn == Closing { raised: 0, ..closing.clone() } && u32::from(largest) == closing.raised;
-    fits.then_some(turn).ok_or(Mismatch)
+    fits.then_some(turn).ok_or(NoTurn::Mismatch)
 }

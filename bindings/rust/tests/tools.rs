@@ -2,7 +2,9 @@
 
 use dewgneiss::csv::bid_sheet;
 use dewgneiss::table::show;
+use std::fs::File;
 use std::path::Path;
+use std::process::{Command, Output, Stdio};
 
 fn example(name: &str) -> Vec<u8> {
     std::fs::read(Path::new(env!("CARGO_MANIFEST_DIR")).join("../../examples").join(name)).expect("an example")
@@ -60,6 +62,11 @@ fn what_is_wrong_with_a_table_is_named() {
         ("4096,4\n2,6\n", "line 1, column 1: starting rent 4096 is above 4,095"),
         ("4,4\n2,99999999999999999999\n", "line 2, column 2: bid 99999999999999999999 is above 4,095"),
         ("4,4\n\n2,6\n", "line 2, column 1: this line is empty, and rows follow it"),
+        ("4,4\n2,\u{1b}[2J\n", "line 2, column 2: '\\u{1b}[2J' is no bid: whole crowns are wanted, digits only"),
+        (
+            "4,4\n2,a long story that goes on\n",
+            "line 2, column 2: 'a long story that go…' is no bid: whole crowns are wanted, digits only",
+        ),
         (&many, "line 1, column 33: a letting has at most 32 pans"),
         (&rows, "line 66, column 1: a letting has at most 64 rakers"),
     ] {
@@ -76,4 +83,58 @@ fn the_largest_table() {
     assert!(sheet.starts_with("20400fff"));
     assert_eq!(sheet.len(), 8_389);
     assert!(dewgneiss::close_sheet(sheet.as_bytes()).is_ok());
+}
+
+/// The longest bid sheet is as long as the wrapper says.
+#[test]
+fn the_longest_sheet() {
+    assert_eq!(dewgneiss::LONGEST_SHEET, 5 + 4 * 32 + 64 * (4 * 32 + 1));
+}
+
+fn tool(verb: &str, input: &str) -> Output {
+    let from = File::open(input).expect("an input");
+    Command::new(env!("CARGO_BIN_EXE_sheet-tool")).args([verb, "-"]).stdin(from).output().expect("the tool runs")
+}
+
+/// An input without end is not read to its end.
+#[test]
+fn an_endless_input() {
+    for (verb, input, said) in [
+        ("show", "/dev/zero", "turned down with 06: these bytes are not a bid sheet"),
+        ("make", "/dev/zero", "-: line 1, column 1: this is more than a table of 32 pans and 64 rakers can be"),
+        ("make", "/dev/null", "-: line 1, column 1: the table is empty"),
+    ] {
+        let done = tool(verb, input);
+        let words = String::from_utf8_lossy(&done.stderr).into_owned();
+        assert!(done.status.code() == Some(1) && done.stdout.is_empty() && words.starts_with(said), "{verb} {input}: {words}");
+    }
+}
+
+/// A sheet with bytes behind it is judged as the program judges it: by its first four bytes, then as a whole.
+#[test]
+fn a_sheet_that_is_too_long() {
+    let row = vec!["0"; 32].join(",") + "\n";
+    let full = bid_sheet(row.repeat(65).as_bytes()).unwrap();
+    for (sheet, said) in [
+        (full.clone() + "\n", "turned down with 06"),
+        (full.clone() + &full, "turned down with 06"),
+        ("21".to_string() + &full, "turned down with 01"),
+    ] {
+        assert!(show(sheet.as_bytes()).unwrap_err().to_string().starts_with(said));
+    }
+}
+
+/// What cannot be written is said.
+#[test]
+fn a_lost_answer() {
+    let full = File::options().write(true).open("/dev/full").expect("a full device");
+    let done = Command::new(env!("CARGO_BIN_EXE_sheet-tool"))
+        .arg("show")
+        .arg(Path::new(env!("CARGO_MANIFEST_DIR")).join("../../examples/k4.sheet"))
+        .stdout(full)
+        .stderr(Stdio::piped())
+        .output()
+        .expect("the tool runs");
+    assert_eq!(done.status.code(), Some(2));
+    assert!(String::from_utf8_lossy(&done.stderr).starts_with("the answer could not be written"));
 }

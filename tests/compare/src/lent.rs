@@ -73,5 +73,5 @@ fn one(k: u64, r: &mut Random, tally: &mut Tally) {
 }
 
 pub fn all(count: u64, seed: u64) -> Tally {
-    on_all_processors(count, seed + 2, one)
+    on_all_processors(count, seed.wrapping_add(2), one)
 }

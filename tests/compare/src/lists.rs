@@ -1,6 +1,7 @@
 //! Live lists through the program `live_console`: many lists in one run, each from an opening of its own.
 
 use crate::program::run;
+use crate::sheets::text;
 use crate::Tally;
 use model::console::{line, opening_line, Console, LONGEST};
 use model::generate::{calls, live_sheet, Reporting};
@@ -45,8 +46,8 @@ fn lines(s: &Sheet, list: &[Call], damage: bool, r: &mut Random) -> Vec<Vec<u8>>
             let other = damaged(if r.one_in(3) { &opening } else { &order }, r);
             let opens = other.starts_with(b"o");
             lines.push(other);
-            // A refused opening leaves the record of zeros: mostly the list opens again.
-            if opens && !r.one_in(4) {
+            // An opening that is refused changes nothing, one that is not begins another auction: after half of them the list opens again.
+            if opens && r.one_in(2) {
                 lines.push(opening.clone().into_bytes());
             }
         }
@@ -74,7 +75,7 @@ fn by_machine(s: &Sheet, list: &[Call]) -> Option<Vec<String>> {
 }
 
 /// A list: what goes in, and what is to come out after each line.
-struct List {
+pub struct List {
     lines: Vec<Vec<u8>>,
     answers: Vec<String>,
     /// What the plain machine answers, if it stays on the sheet; the same as the record's, or it is a fault.
@@ -97,6 +98,11 @@ fn list(k: usize, r: &mut Random) -> List {
     let calls: Vec<Call> = calls(&s, reporting, 250, r).into_iter().map(room).collect();
     let damage = k % 3 == 0;
     let mut list = List::new(lines(&s, &calls, damage, r));
+    if k % BATCH == 0 {
+        // The program has just started: nothing is open yet.
+        let early = list.lines.iter().skip(1).take(8).cloned().collect::<Vec<_>>();
+        return List::new([early, list.lines].concat());
+    }
     if !damage {
         list.machine = by_machine(&s, &calls).map(|by| by == list.answers);
     }
@@ -129,7 +135,7 @@ fn compare(lists: &[List], tally: &mut Tally) {
         let expected = l.answers.concat();
         let same = rest.starts_with(&expected);
         tally.expect(same && l.machine != Some(false), || {
-            let orders: Vec<_> = l.lines.iter().map(|x| String::from_utf8_lossy(x).into_owned()).collect();
+            let orders: Vec<_> = l.lines.iter().map(|x| text(x)).collect();
             let begun: String = rest.chars().take(expected.len()).collect();
             format!("live list: {:?}\nexpected {expected:?}, machine {:?}\nwritten {begun:?}", orders.join(" "), l.machine)
         });
@@ -138,28 +144,49 @@ fn compare(lists: &[List], tally: &mut Tally) {
     tally.expect(rest.is_empty(), || format!("live_console wrote more: {:?}", rest.chars().take(200).collect::<String>()));
 }
 
-/// Every number that a console can give was given, every kind of round was had, closes were read, and the machine stayed on many
-/// sheets: the lists try what they are meant to.
-fn reached(lists: &[List], tally: &mut Tally) {
-    let answers = || lists.iter().flat_map(|l| &l.answers);
-    for start in
-        ["01", "02", "03", "04", "06", "07", "08", "11", "12", "13", "14", "15", "16", "17", "0001", "0002", "0003", "00\n0"]
-    {
-        let times = answers().filter(|a| a.starts_with(start)).count();
-        tally.expect(times * 100 > lists.len(), || format!("only {times} answers start with {start:?}"));
-    }
-    let stayed = lists.iter().filter(|l| l.machine.is_some()).count();
-    tally.expect(stayed * 5 > lists.len(), || format!("the machine stayed on {stayed} sheets only"));
+/// The lists that a seed makes.
+pub fn made(count: u64, seed: u64) -> Vec<List> {
+    let mut r = Random::new(seed.wrapping_add(4));
+    (0..count as usize).map(|k| list(k, &mut r)).collect()
 }
 
 pub fn all(count: u64, seed: u64) -> Tally {
-    let mut r = Random::new(seed + 4);
     let mut tally = Tally::default();
     compare(&[edges()], &mut tally);
-    let lists: Vec<List> = (0..count as usize).map(|k| list(k, &mut r)).collect();
-    lists.chunks(BATCH).for_each(|batch| compare(batch, &mut tally));
-    reached(&lists, &mut tally);
+    made(count, seed).chunks(BATCH).for_each(|batch| compare(batch, &mut tally));
     tally.expect(written(b"e\ns") == "11\n11\n", || "a last line without a newline is a line too".into());
     tally.expect(written(b"").is_empty(), || "no line, no answer".into());
     tally
+}
+
+#[cfg(test)]
+mod tests {
+    use super::*;
+    use crate::{LISTS, SEED};
+
+    /// The lists of the run in which nothing else is said try what they are meant to: they give every number that a console can
+    /// give, have every kind of round, read closes, and stay on many sheets. How often a few lists of another seed do so is chance.
+    #[test]
+    fn the_lists_reach_everything() {
+        let lists = made(LISTS, SEED);
+        let times = |start: &str| lists.iter().flat_map(|l| &l.answers).filter(|a| a.starts_with(start)).count();
+        for start in
+            ["01", "02", "03", "04", "06", "07", "08", "11", "12", "13", "14", "15", "16", "17", "0001", "0002", "0003", "00\n0"]
+        {
+            assert!(times(start) >= 40, "only {} answers start with {start:?}", times(start));
+        }
+        let stayed = lists.iter().filter(|l| l.machine.is_some()).count();
+        assert!(stayed * 5 > lists.len(), "the machine stayed on {stayed} sheets only");
+        // Calls that follow an opening which was refused, in an auction that is open.
+        let kept = |l: &List| {
+            l.lines.windows(2).zip(l.answers.windows(2)).any(|(line, answer)| {
+                line[0].starts_with(b"o0")
+                    && !answer[0].starts_with("00")
+                    && answer[1].starts_with("00")
+                    && !line[1].starts_with(b"o")
+            })
+        };
+        let kept = lists.iter().filter(|l| kept(l)).count();
+        assert!(kept >= 40, "only {kept} lists go on after an opening that was refused");
+    }
 }

@@ -1,7 +1,7 @@
 //! Holds the proved code to the second program: through the wrapper, through `closing_sheet` and through `live_console`.
 //!
-//! `compare [SHEETS] [LISTS] [SEED]`. Its last line is 'N passed, M failed'; it fails if M is not 0. The programs are looked for
-//! in `target/bin` of the repository, where `rt` leaves them.
+//! `compare [SHEETS] [LISTS] [SEED]`. Its last line is 'N passed, M failed': M comparisons differ, and it fails if M is not 0. The
+//! programs are looked for in `target/bin` of the repository, where `rt` leaves them.
 
 mod fixed;
 mod lent;
@@ -43,10 +43,24 @@ fn stage(total: &mut Tally, name: &str, run: impl FnOnce() -> Tally) {
     total.add(tally);
 }
 
+/// How many sheets and lists where nothing is said, and from which seed.
+const SHEETS: u64 = 24_000;
+const LISTS: u64 = 4_000;
+const SEED: u64 = 20_250_101;
+
+/// What the arguments ask for: sheets, lists, seed. Counts above 32 bits are refused, as no run would end.
+fn asked(words: &[String]) -> Option<(u64, u64, u64)> {
+    let count = |k: usize, default: u64| words.get(k).map_or(Some(default), |w| w.parse::<u32>().ok().map(u64::from));
+    let seed = words.get(2).map_or(Some(SEED), |w| w.parse().ok());
+    (words.len() <= 3).then_some((count(0, SHEETS)?, count(1, LISTS)?, seed?))
+}
+
 fn main() {
-    let numbers: Vec<u64> = std::env::args().skip(1).map(|w| w.parse().expect("a number")).collect();
-    let number = |k: usize, default: u64| numbers.get(k).copied().unwrap_or(default);
-    let (count, lists, seed) = (number(0, 24_000), number(1, 4_000), number(2, 20_250_101));
+    let words: Vec<String> = std::env::args_os().skip(1).map(|w| w.to_string_lossy().into_owned()).collect();
+    let Some((count, lists, seed)) = asked(&words) else {
+        eprintln!("usage: compare [SHEETS] [LISTS] [SEED], three numbers");
+        std::process::exit(2);
+    };
     let mut total = Tally::default();
     stage(&mut total, "document 01's lettings", fixed::all);
     stage(&mut total, "sheets within the limits, through the wrapper", || sheets::accepted(count * 2 / 3, seed));

@@ -76,7 +76,7 @@ fn without_input(tally: &mut Tally) {
 
 pub fn sheets(count: u64, seed: u64) -> Tally {
     let mut tally = Tally::default();
-    let mut r = Random::new(seed + 3);
+    let mut r = Random::new(seed.wrapping_add(3));
     for case in cases::table() {
         compare(case.name, &sheet::write(&case.sheet), &mut tally);
     }

@@ -98,5 +98,5 @@ pub fn text(bytes: &[u8]) -> String {
 
 /// Damaged sheets, and good ones between them, with rooms of every size.
 pub fn damaged(count: u64, seed: u64) -> Tally {
-    on_all_processors(count, seed + 1, one_damaged)
+    on_all_processors(count, seed.wrapping_add(1), one_damaged)
 }

@@ -2,7 +2,7 @@
 //!
 //! `o` + 2 hexadecimal digits items + 2 bidders + 4 for each starting price opens; `r` + 2 digits bidder + 01 or 00 for null +
 //! 8 digits item set reports; `e` ends the round; `c` clears; `s` reads the close. Anything else is 06, and so is any longer line
-//! than the program takes.
+//! than the program takes. A line that is answered with a number other than 00 changes nothing, an opening included.
 
 use crate::live::{Answer, Call, Record, Report};
 use crate::sheet::{number, numbers};
@@ -21,7 +21,7 @@ fn digits(prices: &[u16]) -> String {
 }
 
 impl Console {
-    /// Before any opening the record is the one of zeros.
+    /// Before any opening the record is the one of zeros, which every call gives 11 on.
     pub fn new() -> Console {
         Console { record: Record::zeros() }
     }
@@ -51,10 +51,7 @@ impl Console {
                 self.record = record;
                 format!("00{}\n", digits(&start))
             }
-            Err(number) => {
-                self.record = Record::zeros();
-                format!("{number:02}\n")
-            }
+            Err(number) => format!("{number:02}\n"),
         }
     }
 

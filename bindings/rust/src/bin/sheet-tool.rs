@@ -1,36 +1,51 @@
 //! What `./run show` and `./run make` call: `sheet-tool show FILE`, `sheet-tool make FILE`; `-` is standard input.
 
+use dewgneiss::{csv, table, LONGEST_SHEET};
 use std::error::Error;
+use std::ffi::{OsStr, OsString};
+use std::fmt::Display;
+use std::fs::File;
 use std::io::{Read, Write};
+use std::path::Path;
 use std::process::ExitCode;
 
-fn contents(file: &str) -> Result<Vec<u8>, Box<dyn Error>> {
-    if file != "-" {
-        return std::fs::read(file).map_err(|e| format!("{file}: {e}").into());
-    }
+/// The file's name before what is wrong with it.
+fn of<E: Display>(file: &OsStr) -> impl Fn(E) -> Box<dyn Error> + '_ {
+    move |fault| format!("{}: {fault}", Path::new(file).display()).into()
+}
+
+/// The start of a file: one byte more than can be of use, so that a file that is too long is seen to be so, and an endless one is not read on.
+fn start(file: &OsStr, longest: usize) -> Result<Vec<u8>, Box<dyn Error>> {
+    let from: Box<dyn Read> =
+        if file == "-" { Box::new(std::io::stdin()) } else { Box::new(File::open(file).map_err(of(file))?) };
     let mut bytes = Vec::new();
-    std::io::stdin().read_to_end(&mut bytes)?;
+    from.take(longest as u64 + 1).read_to_end(&mut bytes).map_err(of(file))?;
     Ok(bytes)
 }
 
-fn run(words: &[String]) -> Result<String, Box<dyn Error>> {
+fn run(words: &[OsString]) -> Result<String, Box<dyn Error>> {
     match words {
-        [verb, file] if verb == "show" => dewgneiss::table::show(&contents(file)?),
-        [verb, file] if verb == "make" => {
-            dewgneiss::csv::bid_sheet(&contents(file)?).map_err(|fault| format!("{file}: {fault}").into())
-        }
+        [verb, file] if verb == "show" => table::show(&start(file, LONGEST_SHEET)?),
+        [verb, file] if verb == "make" => csv::bid_sheet(&start(file, csv::LONGEST_TABLE)?).map_err(of(file)),
         _ => Err("usage: sheet-tool show SHEET | sheet-tool make FILE.csv".into()),
     }
 }
 
+/// Says what is wrong. Where standard error is lost too, the status is all that is left.
+fn failed(error: &dyn Display, status: u8) -> ExitCode {
+    let _ = writeln!(std::io::stderr(), "{error}");
+    ExitCode::from(status)
+}
+
+/// Ends with status 1 where the input is refused, and 2 where the answer is lost.
 fn main() -> ExitCode {
-    let words: Vec<String> = std::env::args().skip(1).collect();
-    let done = run(&words).and_then(|text| Ok(std::io::stdout().write_all(text.as_bytes())?));
-    match done {
-        Ok(()) => ExitCode::SUCCESS,
-        Err(error) => {
-            eprintln!("{error}");
-            ExitCode::FAILURE
-        }
+    let words: Vec<OsString> = std::env::args_os().skip(1).collect();
+    let mut out = std::io::stdout();
+    match run(&words) {
+        Err(error) => failed(&error, 1),
+        Ok(text) => match out.write_all(text.as_bytes()).and_then(|()| out.flush()) {
+            Err(error) => failed(&format!("the answer could not be written: {error}"), 2),
+            Ok(()) => ExitCode::SUCCESS,
+        },
     }
 }
