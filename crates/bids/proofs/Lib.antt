@@ -1,3 +1,4 @@
+pub mod Applied
 pub mod Lent
 pub mod Limits
 pub mod Rows

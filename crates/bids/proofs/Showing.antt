@@ -3,7 +3,7 @@ use Prim.Native.Nat.{ℕ, zero, suc, _+_, _-_, _*_, _≤_, _<_}
 use mathlib.Core.Path.{_≡_, refl, sym, ap, _∙_}
 use mathlib.Core.List.{List, []}
 use native.Mathlib.Omega.{arith}
-use lib.ListN.{length}
+use lib.ListN.{length, take, drop}
 use Rattle.rule.specs.Refusal.{badItems, badBidders, badLength, badBidder}
 use Rattle.rule.proofs.Refusal.{passed, none, first-nil, in-range, range-in, exact, exact-is}
 use Rattle.bids.specs.Lent.{lineOf}
@@ -62,6 +62,11 @@ module _ (m n b : ℕ) (bids : List ℕ) where
   pub line-of : lineRefusal m n b bids ≡ 0 → lineShown m n b bids ≡ lineOf m bids (b - 1)
   unfolding lineShown shown
   line-of e = ap (λ (y : ℕ). shown y (lineOf m bids (b - 1))) e
+
+  -- what is shown are the bids from the place on where it starts
+  pub shown-there : lineRefusal m n b bids ≡ 0 → lineShown m n b bids ≡ take m (drop (lineStart m n b bids) bids)
+  unfolding lineStart lineOf
+  shown-there e = line-of e ∙ ap (λ (k : ℕ). take m (drop k bids)) (sym (ap (λ (y : ℕ). elim y [ zero ↦ (b - 1) * m | suc why ↦ 0 ]) e))
 
 -- the line of a bidder among n, counted from 0
 pub shown-at : (m n b : ℕ) (bids : List ℕ) → 1 ≤ m → m ≤ 32 → n ≤ 64 → length bids ≡ n * m → b < n → lineShown m n (b + 1) bids ≡ lineOf m bids b
