@@ -12,14 +12,15 @@ use Rattle.sets.specs.Lists.{tabulate}
 use Rattle.rule.specs.Sheet.{amount, Sheet}
 use Rattle.rule.specs.Demand.{surplusAtLeast, best, Demand, demand, demands, wants, nth}
 use Rattle.rule.specs.Excess.{bidders, overdemanded, weaklyUnderdemanded, crowded, inExcess, inPositiveExcess, excessDemand, positiveExcessDemand, excessSupply, positive}
-use Rattle.rule.specs.Round.{raise, lower, closed, roundFalling, round, move, roundAt, after, opening, path, mostRounds}
+use Rattle.rule.specs.Round.{raise, lower, raised, lowered, closed, roundFalling, round, move, roundAt, after, opening, path, mostRounds}
 use Rattle.rule.specs.Assignment.{option, holders, isAssignment, fits, Ahead, over-null}
 use Rattle.rule.specs.Equilibrium.{Below, greatest}
 use Rattle.rule.specs.Closing.{roundOf, largestRise}
+use Rattle.rule.specs.Reasons.{biddersWith, reasonOf, reasonAt, Justified}
 
 -- the definitions that the cases compute with
 computing : Unit {0}
-unfolding allBelow anyBelow count bit isSet has setOf each any size largestBelow largest tabulate amount surplusAtLeast best demand demands wants nth bidders overdemanded weaklyUnderdemanded crowded inExcess inPositiveExcess excessDemand positiveExcessDemand excessSupply positive raise lower roundFalling round move roundAt after opening path mostRounds option holders isAssignment fits greatest
+unfolding allBelow anyBelow count bit isSet has setOf each any size largestBelow largest tabulate amount surplusAtLeast best demand demands wants nth bidders overdemanded weaklyUnderdemanded crowded inExcess inPositiveExcess excessDemand positiveExcessDemand excessSupply positive raise lower roundFalling round move roundAt after opening path mostRounds option holders isAssignment fits greatest biddersWith reasonOf reasonAt
 computing = tt
 
 -- a demand of these items alone, and one of null beside them
@@ -151,3 +152,35 @@ two = record { items = 1; start = 1 ∷ []; bids = (2 ∷ []) ∷ (2 ∷ []) ∷
 pub rise : path two 1 .ups ≡ largestRise two (path two 1 .prices)
 unfolding computing
 rise = refl
+
+-- ---- reasons
+
+-- example 6, round 2: bidders 1 and 2 demand item 2 alone, for whose sake it is raised; bidder 3 demands item 1 as well
+pub rise-for : reasonOf 2 (only 2 ∷ only 2 ∷ only 3 ∷ []) (raised 2) ≡ record { kind = 1; items = 2; bidders = 3 }
+unfolding computing
+rise-for = refl
+
+-- who demands null as well demands something outside the set
+pub rise-not-null : reasonOf 1 (only 1 ∷ orNull 1 ∷ only 1 ∷ []) (raised 1) ≡ record { kind = 1; items = 1; bidders = 5 }
+unfolding computing
+rise-not-null = refl
+
+-- for a fall all count who demand something in the set, whatever else they demand
+pub fall-for : reasonOf 2 (only 2 ∷ only 3 ∷ orNull 1 ∷ []) (lowered 1) ≡ record { kind = 2; items = 1; bidders = 6 }
+unfolding computing
+fall-for = refl
+
+-- one item at 0 and bids of 1 and 2: both demand it alone before the round that raises it, and after that only who bid 2
+pub before-the-round : reasonAt (record { items = 1; start = 0 ∷ []; bids = (1 ∷ []) ∷ (2 ∷ []) ∷ [] }) 0 ≡ record { kind = 1; items = 1; bidders = 3 }
+unfolding computing
+before-the-round = refl
+
+-- K6: two bidders for one item are enough for a rise
+pub two-for-one : Justified 1 2 (record { kind = 1; items = 1; bidders = 3 })
+unfolding computing
+two-for-one = record { raised-more = λ e. omega arith; lowered-no-more = λ e. absurd (omega (arith, e)) }
+
+-- K4 at (3, 3): two bidders for two items are not too many for a fall
+pub two-for-two : Justified 2 2 (record { kind = 2; items = 3; bidders = 3 })
+unfolding computing
+two-for-two = record { raised-more = λ e. absurd (omega (arith, e)); lowered-no-more = λ e. omega arith }

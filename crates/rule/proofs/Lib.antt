@@ -23,4 +23,5 @@ pub mod Total
 pub mod Balance
 pub mod Path
 pub mod Closing
+pub mod Reasons
 pub mod Refusal

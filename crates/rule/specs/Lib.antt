@@ -7,4 +7,5 @@ pub mod Assignment
 pub mod Completion
 pub mod Equilibrium
 pub mod Closing
+pub mod Reasons
 pub mod Refusal
