@@ -9,6 +9,7 @@ use lib.ListN.{length, set}
 use borrow.Author.Tests.{eqb-true}
 use Rattle.sets.specs.Bit.{has, setOf}
 use Rattle.sets.specs.Lists.{tabulate}
+use Rattle.sets.proofs.Lists.{tabulate-same}
 use Rattle.sets.proofs.Counting.{not-both, or-right, or-false, and-true, and-right-false}
 use Rattle.sets.proofs.Members.{has-setOf, setOf-cong}
 use Rattle.rule.specs.Sheet.{Sheet}
@@ -23,7 +24,7 @@ use Rattle.live.proofs.Parts.{by-parts}
 use Rattle.agreement.specs.Calls.{reporting, clearing, call}
 use Rattle.agreement.specs.Machine.{Standing, none, stands, Machine, at, phase, doesStand, said, tells, machine, machineReport, machineClear}
 use Rattle.agreement.specs.Agreement.{standsFor}
-use Rattle.agreement.proofs.Lists.{tabulate-same, tabulate-set}
+use Rattle.agreement.proofs.Lists.{tabulate-set}
 use Rattle.agreement.proofs.Numbers.{first-same}
 use Rattle.agreement.proofs.Standing.{closed-stands, reported-is}
 use Rattle.agreement.proofs.Follows.{Good, Follows, replies, no-nulls, no-reported, no-sets}
@@ -132,7 +133,7 @@ module _ (s : Sheet) (t : Machine) (g : Good s t) (w : wellFormed (standsFor s t
     report-sets l =
         let q : suc (b - 1) ≡ b = omega arith in
         tabulate-set 64 (λ k. said (t .standing (suc k)) .items) (b - 1) (d .items)
-        ∙ tabulate-same 0 64 (λ k. cond (eqb k (b - 1)) (d .items) (said (t .standing (suc k)) .items)) (λ k. said (with t b d .standing (suc k)) .items)
+        ∙ tabulate-same 64 (λ k. cond (eqb k (b - 1)) (d .items) (said (t .standing (suc k)) .items)) (λ k. said (with t b d .standing (suc k)) .items)
         (λ k l. set-at k ∙ ap (λ (x : Bool). said (cond x (stands d) (t .standing (suc k))) .items) (sym (eqb·suc-suc k (b - 1)) ∙ ap (eqb (suc k)) q))
 
     report-nulls : t .standing b ≡ none → setOf 64 (λ i. has (setOf 64 (λ i. said (t .standing i) .null)) i || (d .null && eqb i b)) ≡ setOf 64 (λ i. said (with t b d .standing i) .null)

@@ -11,7 +11,7 @@ use Rattle.sets.specs.Count.{anyBelow}
 use Rattle.sets.specs.Bit.{has, setOf}
 use Rattle.sets.specs.Lists.{tabulate}
 use Rattle.sets.proofs.Counting.{all-use, any-use, any-cong, and-left, and-right, is-false, not-both}
-use Rattle.sets.proofs.Lists.{tabulate-at, places-at}
+use Rattle.sets.proofs.Lists.{tabulate-at, tabulate-same, places-at}
 use Rattle.sets.proofs.Members.{has-setOf, setOf-cong}
 use Rattle.rule.specs.Sheet.{amount, Sheet}
 use Rattle.rule.specs.Demand.{Demand, nth}
@@ -20,11 +20,11 @@ use Rattle.rule.specs.Closing.{demandsAt}
 use Rattle.rule.proofs.AtPrices.{demands-length}
 use Rattle.rule.proofs.Limits.{Limits}
 use Rattle.round.specs.Reports.{reports}
+use Rattle.round.proofs.Reporting.{tabulate-nth}
 use Rattle.live.specs.Auction.{hasReported, missing, reportsOf, aboveZero, risingSet}
 use Rattle.live.specs.Calls.{isClosed, atTop}
 use Rattle.agreement.specs.Machine.{Standing, none, stands, Machine, at, phaseOf, phase, doesStand, said, saidAll, isMissing, sameBool, sameDemand, standsAs, demandsStand}
 use Rattle.agreement.specs.Agreement.{standsFor}
-use Rattle.agreement.proofs.Lists.{tabulate-same, tabulate-nth}
 
 abbrev nothing : Demand
 nothing = record { null = false; items = 0 }
@@ -70,7 +70,7 @@ module _ (s : Sheet) (t : Machine) where
   pub said-demands : demandsStand s t ≡ true → saidAll s t ≡ demandsAt s (at s t .prices)
   unfolding saidAll
   said-demands h =
-      tabulate-same nothing n (λ k. said (t .standing (suc k))) (nth (demandsAt s (at s t .prices))) (λ k l. each-stands h k l .1)
+      tabulate-same n (λ k. said (t .standing (suc k))) (nth (demandsAt s (at s t .prices))) (λ k l. each-stands h k l .1)
       ∙ ap (λ (n : ℕ). tabulate n (nth (demandsAt s (at s t .prices))) 0) (sym (demands-length (s .items) (s .bids) (at s t .prices)))
       ∙ tabulate-nth (demandsAt s (at s t .prices))
 
@@ -111,7 +111,7 @@ module _ (s : Sheet) (t : Machine) where
     unfolding reportsOf reports standsFor saidAll
     reports-is =
         let max = lim .max-bidders in
-        tabulate-same nothing n _ (λ k. said (t .standing (suc k)))
+        tabulate-same n _ (λ k. said (t .standing (suc k)))
         (λ k l. ap (λ (x : Bool). record { null = x; items = getD (tabulate 64 (λ k. said (t .standing (suc k)) .items) 0) k 0 }) (null-is k (omega (arith, max, l)))
         ∙ ap (λ (y : ℕ). record { null = said (t .standing (suc k)) .null; items = y }) (set-is k (omega (arith, max, l))))
 

@@ -1,6 +1,3 @@
-pub mod Surplus
-pub mod Demanding
 pub mod LeastPrices
-pub mod Greatest
 pub mod Settling
 pub mod Sealing

@@ -13,6 +13,7 @@ use Rattle.rule.specs.Closing.{assignmentAt}
 use Rattle.rule.specs.Closing as rule
 use Rattle.round.specs.Reports.{reports, Reported}
 use Rattle.prices.proofs.Moving.{demands-places, positive-places}
+use Rattle.round.proofs.Narrowing.{positive-lt}
 use Rattle.assignment.specs.Assigned.{assigned}
 use Rattle.assignment.proofs.Unfit.{assigned-is}
 use Rattle.assignment.proofs.Narrowing.{assignment-narrow}
@@ -21,7 +22,6 @@ use Rattle.bids.specs.Refusal.{sealedRefusal}
 use Rattle.bids.proofs.Limits.{accepted-within}
 use Rattle.auction.specs.Sealed.{refused, closed, outcome, sealedOf, Promised}
 use Rattle.auction.specs.declared.Closing.{Closing}
-use Rattle.auction.proofs.Demanding.{positive-lt}
 use Rattle.auction.proofs.Settling.{Ready, ready, close-long}
 
 module _ (m n : ℕ) (start bids : List ℕ) where

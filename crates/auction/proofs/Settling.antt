@@ -1,6 +1,6 @@
 -- Where the least prices lie: the close of a sheet's path, and as many rounds raised and lowered as the largest rise and the largest fall. The code's prices stand
 -- in 32 places. THEORY.md 2.11. Assumes nothing.
-use Prim.Native.Nat.{ℕ, suc, _+_, _-_, _≤_}
+use Prim.Native.Nat.{ℕ, suc, _-_, _≤_}
 use mathlib.Core.Path.{_≡_, sym, ap, _∙_, fun-ext}
 use mathlib.Core.Bool.{true}
 use mathlib.Core.List.{List}
@@ -16,14 +16,13 @@ use Rattle.rule.specs.Equilibrium.{greatest}
 use Rattle.rule.specs.Closing.{Closing}
 use Rattle.rule.proofs.Limits.{Limits, limits, amount-beyond}
 use Rattle.rule.proofs.Closing.{closing-of}
+use Rattle.rule.proofs.Greatest.{greatest-past}
 use Rattle.rule.proofs.Moves.{raise-length, lower-length}
 use Rattle.rule.proofs.Path.{kept}
 use Rattle.prices.proofs.Moving.{places-amount, positive-places}
 use Rattle.round.proofs.Narrowing.{positive-narrow}
-use Rattle.bids.specs.Fit.{Small}
 use Rattle.least.specs.Least.{Least}
 use Rattle.auction.proofs.LeastPrices.{least-turn, least-close}
-use Rattle.auction.proofs.Greatest.{greatest-past}
 
 -- what a sheet within the limits has
 pub record Ready (s : Sheet) : Type 0 where
@@ -34,10 +33,15 @@ pub ready : (s : Sheet) → withinLimits s ≡ true → Ready s
 ready s e = let l = limits s e in record { limits = l; closing = closing-of s l }
 
 -- along the path there is a price for each item
-path-long : (s : Sheet) → length (s .start) ≡ s .items → (k : ℕ) → length (path s k .prices) ≡ s .items
+pub path-long : (s : Sheet) → length (s .start) ≡ s .items → (k : ℕ) → length (path s k .prices) ≡ s .items
 unfolding path opening
 path-long s e k =
     kept (s .items) (s .bids) (λ p. length p ≡ s .items) (λ p h. raise-length (s .items) p _) (λ p h. lower-length (s .items) p _) (opening (s .start)) e k
+
+-- prices in 32 places: no item past the last is above 0
+pub positive-wide : (m : ℕ) → m ≤ 32 → (q : List ℕ) → length q ≡ m → positive 32 (places 32 q) ≡ positive m q
+positive-wide m lm q long =
+    positive-places m lm q long 32 ∙ positive-narrow m q lm (λ j l. List·getD-eq-default q 0 {n = j} (omega (arith, long, l)))
 
 is-places : (p q : List ℕ) → length p ≡ 32 → ((i : ℕ) → amount p i ≡ amount q i) → p ≡ places 32 q
 unfolding places amount
@@ -57,26 +61,11 @@ module _ (s : Sheet) (g : Ready s) where
   unfolding close
   close-long = path-long s long _
 
-  -- the closing prices in 32 places
-  module _ (p : List ℕ) (e : p ≡ places 32 (close s .prices)) where
-    -- no price past the items is above 0
-    pub past-items : positive 32 p ≡ positive (s .items) p
-    past-items =
-        ap (positive 32) e ∙ positive-places (s .items) lm (close s .prices) close-long 32
-        ∙ positive-narrow (s .items) (close s .prices) lm (λ j l. List·getD-eq-default (close s .prices) 0 {n = j} (omega (arith, close-long, l)))
-        ∙ sym (positive-places (s .items) lm (close s .prices) close-long (s .items)) ∙ sym (ap (positive (s .items)) e)
-
-    pub close-small : Small p
-    unfolding Small amount
-    close-small k =
-        omega (
-          arith,
-          ap (λ (q : List ℕ). amount q (suc k)) e,
-          places-amount (s .items) lm (close s .prices) close-long (suc k),
-          ap (λ (t : State). amount (t .prices) (suc k)) (c .close-is),
-          ap (λ (t : State). amount (t .prices) (suc k)) (c .at-close),
-          c .range (c .ups + c .downs) (suc k),
-        )
+  -- of the closing prices in 32 places none past the items is above 0
+  pub past-items : (p : List ℕ) → p ≡ places 32 (close s .prices) → positive 32 p ≡ positive (s .items) p
+  past-items p e =
+      ap (positive 32) e ∙ positive-wide (s .items) lm (close s .prices) close-long
+      ∙ sym (ap (positive (s .items)) e ∙ positive-places (s .items) lm (close s .prices) close-long (s .items))
 
   -- the least prices that the code finds, from 0 up and from the start up
   module _ (last : List ℕ) (end : Least (s .items) (s .bids) (replicate 32 0) last) (turn : List ℕ) (top : Least (s .items) (s .bids) (s .start) turn) where

@@ -1,2 +1,1 @@
 pub mod Sealed
-pub mod Steps

@@ -29,6 +29,11 @@ setOf-narrow m w f l off = sym (is-setOf w (setOf m f) f (lt-of-lt-of-le (setOf-
     go k lk (inl q) = isSet-setOf m f k q
     go k lk (inr q) = isSet-above m (setOf m f) k (setOf-lt m f) q ∙ sym (off k q lk)
 
+-- the items of price above 0 are items
+pub positive-lt : (m : ℕ) (p : List ℕ) → positive m p < 2 ^ m
+unfolding positive
+positive-lt m p = setOf-lt m (λ i. ltb 0 (amount p i))
+
 pub positive-narrow : (m : ℕ) (p : List ℕ) → m ≤ 32 → ((k : ℕ) → m ≤ k → getD p k 0 ≡ 0) → positive 32 p ≡ positive m p
 unfolding positive amount
 positive-narrow m p l z = setOf-narrow m 32 (λ i. ltb 0 (amount p i)) l (λ k lo lk. ap (ltb 0) (z k lo))

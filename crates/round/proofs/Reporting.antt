@@ -1,11 +1,12 @@
 -- The reports as the code holds them, and what the matching makes of them: the rising set and the falling set. Assumes nothing.
 use Prim.Native.Nat.{ℕ, zero, suc, _+_, _<_}
-use mathlib.Core.Path.{_≡_, refl, sym, ap, _∙_, fun-ext}
-use mathlib.Core.Bool.{_&&_, not, cond}
+use mathlib.Core.Path.{_≡_, refl, sym, ap, _∙_, subst, fun-ext}
+use mathlib.Core.Bool.{false, _&&_, not, cond}
 use mathlib.Core.List.{List, _∷_, map}
 use native.Mathlib.Nat.{zero-add}
 use native.Mathlib.Numerals.{add-one}
 use lib.ListN.{length, getD, length-map}
+use lib.Seq.{ext-getD}
 use Rattle.sets.specs.Bit.{has, setOf}
 use Rattle.sets.specs.Lists.{tabulate}
 use Rattle.sets.proofs.Lists.{tabulate-length, tabulate-at}
@@ -26,6 +27,14 @@ unfolding reports nth
 report n sets nulls b l =
     tabulate-at n (λ b. record { null = has nulls (suc b); items = getD sets b 0 }) 0 b _ l
     ∙ ap (λ (k : ℕ). record { null = has nulls (suc k); items = getD sets k 0 }) (zero-add b)
+
+-- demands are those of each bidder in turn
+pub tabulate-nth : (ds : List Demand) → tabulate (length ds) (nth ds) 0 ≡ ds
+unfolding nth
+tabulate-nth ds =
+    let z : Demand = record { null = false; items = 0 } in
+    ext-getD z (tabulate (length ds) (nth ds) 0) ds (tabulate-length (length ds) (nth ds) 0)
+    (λ k l. tabulate-at (length ds) (nth ds) 0 k z (subst (λ (x : ℕ). k < x) (tabulate-length (length ds) (nth ds) 0) l) ∙ ap (λ (j : ℕ). getD ds j z) (zero-add k))
 
 pub map-tabulate : {A B : Type 0} (g : A → B) (n : ℕ) (f : ℕ → A) (i : ℕ) → tabulate n (λ k. g (f k)) i ≡ map g (tabulate n f i)
 unfolding tabulate

@@ -1,6 +1,7 @@
 -- Cases that tell a wrong definition, then the argument of docs/THEORY.md in its order.
 pub mod Applied
 pub mod Limits
+pub mod Greatest
 pub mod Union
 pub mod Tests
 pub mod Largest

@@ -1,21 +1,21 @@
 -- A raised set has more bidders who demand nothing outside it than items, and a lowered set is demanded by no more bidders than it has items: whatever the
 -- demands are, so of every round of every path and of every round that reports give. THEORY.md 1.8. Then which rounds have a reason. Assumes nothing.
 use Prim.Native.Nat.{ℕ, suc, _+_, _-_, _≤_, _<_}
-use mathlib.Core.Path.{_≡_, refl, sym, ap, _∙_, subst}
-use mathlib.Core.Bool.{Bool, true}
+use mathlib.Core.Path.{_≡_, sym, ap, _∙_, subst}
+use mathlib.Core.Bool.{Bool}
 use mathlib.Core.List.{List}
 use native.Mathlib.Omega.{arith}
 use lib.ListN.{length, length-map}
 use borrow.Author.Tests.{ltb-true, leb-true}
-use Rattle.sets.specs.Bit.{has, isSet, setOf, size}
+use Rattle.sets.specs.Bit.{isSet, setOf, size}
 use Rattle.sets.proofs.Counting.{count-cong, and-right}
 use Rattle.sets.proofs.Members.{isSet-setOf}
 use Rattle.rule.specs.Sheet.{Sheet}
 use Rattle.rule.specs.Demand.{Demand, demands, nth}
 use Rattle.rule.specs.Excess.{bidders, nonEmptyPart, somethingIn, nothingOutside, overdemanded, weaklyUnderdemanded, excessDemand, excessSupply, positive}
-use Rattle.rule.specs.Round.{Phase, Round, raised, lowered, closed, round, State, roundAt, path, close}
-use Rattle.rule.specs.Closing.{demandsAt, excessDemandAt, excessSupplyAt, roundOf, Closing}
-use Rattle.rule.specs.Reasons.{biddersWith, Reason, reasonOf, reasonAt, roundCount, Justified}
+use Rattle.rule.specs.Round.{Phase, Round, raised, lowered, closed, round, State, roundAt, path}
+use Rattle.rule.specs.Closing.{demandsAt, excessDemandAt, excessSupplyAt, Closing}
+use Rattle.rule.specs.Reasons.{biddersWith, reasonOf, reasonAt, roundCount, Justified}
 use Rattle.rule.proofs.Largest.{demand-bound, supply-bound}
 use Rattle.rule.proofs.EmptySets.{rising-over, falling-under}
 use Rattle.rule.proofs.Moves.{some-item}

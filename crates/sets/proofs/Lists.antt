@@ -1,6 +1,6 @@
 -- A list by places has as many places as it says, and in each what it says. Assumes nothing.
-use Prim.Native.Nat.{ℕ, zero, suc, _+_, _<_}
-use mathlib.Core.Path.{_≡_, refl, sym, ap, _∙_, subst}
+use Prim.Native.Nat.{ℕ, zero, suc, _+_, _≤_, _<_}
+use mathlib.Core.Path.{_≡_, refl, sym, ap, ap₂, _∙_, subst}
 use mathlib.Core.List.{List, _∷_}
 use native.Mathlib.Omega.{arith}
 use native.Mathlib.Nat.{not-suc-le-zero, add-zero, zero-add}
@@ -18,6 +18,16 @@ unfolding tabulate
 tabulate-at zero f i k z l = absurd (not-suc-le-zero l)
 tabulate-at (suc n) f i zero z l = ap f (sym (add-zero i))
 tabulate-at (suc n) f i (suc k) z l = tabulate-at n f (suc i) k z (omega arith) ∙ ap f (omega arith)
+
+-- two lists are one where they agree in each place
+tabulate-cong : {A : Type 0} (n : ℕ) (f g : ℕ → A) (i : ℕ) → ((k : ℕ) → i ≤ k → k < i + n → f k ≡ g k) → tabulate n f i ≡ tabulate n g i
+unfolding tabulate
+tabulate-cong zero f g i h = refl
+tabulate-cong {A} (suc n) f g i h =
+    ap₂ (λ (x : A) (xs : List A). x ∷ xs) (h i (omega arith) (omega arith)) (tabulate-cong n f g (suc i) (λ k lo hi. h k (omega arith) (omega arith)))
+
+pub tabulate-same : {A : Type 0} (n : ℕ) (f g : ℕ → A) → ((k : ℕ) → k < n → f k ≡ g k) → tabulate n f 0 ≡ tabulate n g 0
+tabulate-same n f g h = tabulate-cong n f g 0 (λ k lo hi. h k (omega arith))
 
 -- numbers from 0 and from 1
 pub tabulate-shift : {A : Type 0} (n : ℕ) (f : ℕ → A) (i : ℕ) → tabulate n (λ k. f (suc k)) i ≡ tabulate n f (suc i)

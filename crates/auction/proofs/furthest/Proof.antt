@@ -4,7 +4,7 @@ use mathlib.Core.Path.{_≡_, refl, ap, _∙_}
 use native.Mathlib.Omega.{arith}
 use Rattle.rule.specs.Sheet.{amount}
 use Rattle.rule.specs.Equilibrium.{greatest}
-use Rattle.auction.proofs.Greatest.{greatest-next}
+use Rattle.rule.proofs.Greatest.{greatest-next}
 use borrow.Author.Needs.{needs}
 use Rattle.auction.proofs.furthest.Statement.{statement}
 use Rattle.auction.proofs.furthest.Tie as tie

@@ -2,9 +2,9 @@
 use mathlib.Core.Path.{sym, _∙_}
 use Rattle.bids.specs.Lent.{sheetOf}
 use Rattle.bids.proofs.Limits.{fine, accepted-within}
-use Rattle.bids.proofs.Fitting.{bids-fit}
+use Rattle.demands.proofs.Demanding.{demanded}
 use Rattle.auction.specs.Sealed.{refused}
-use Rattle.auction.proofs.Settling.{ready, past-items, close-small}
+use Rattle.auction.proofs.Settling.{ready, past-items}
 use Rattle.auction.proofs.Sealing.{sealed-refused, sealed-closed, sealed-promised, sealed-is}
 use borrow.Author.Needs.{needs}
 use Rattle.auction.proofs.sealed.Statement.{statement}
@@ -24,12 +24,7 @@ rounds-requires : tie.Need-rounds-requires
 rounds-requires c κs = sym (c .before .refusal .ensures) ∙ c .if1 .left
 
 demands-at-requires : tie.Need-demands-at-requires
-demands-at-requires c κs =
-    let a = c .before .before .before .before .before .before .before .args in
-    let z = sym (c .before .before .before .before .refusal .ensures) ∙ c .before .before .before .if1 .left in
-    let s = sheetOf (a .items) (a .bidders) (a .start .now) (a .bids .now) in
-    let p = c .before .before .rounds in
-    (bids-fit (fine (a .items) (a .bidders) (a .start .now) (a .bids .now) z), close-small s (ready s (accepted-within (a .items) (a .bidders) (a .start .now) (a .bids .now) z .1)) (p .result .prices) (p .ensures .2))
+demands-at-requires c κs = search needs
 
 positive-requires : tie.Need-positive-requires
 positive-requires c κs = search needs
@@ -44,11 +39,12 @@ returns-2 c =
     let z = sym (c .before .before .before .before .before .before .before .before .before .before .refusal .ensures) ∙ c .before .before .before .before .before .before .before .before .before .if1 .left in
     let s = sheetOf (a .items) (a .bidders) (a .start .now) (a .bids .now) in
     let g = ready s (accepted-within (a .items) (a .bidders) (a .start .now) (a .bids .now) z .1) in
+    let f = fine (a .items) (a .bidders) (a .start .now) (a .bids .now) z in
     let p = c .before .before .before .before .before .before .before .before .rounds in
-    let d = c .before .before .before .before .before .demands-at in
+    let d = demanded (a .items) (a .bidders) (p .result .prices) (a .bids .now) (record { max-items = f .max-items; max-bidders = f .max-bidders; exact = f .bids-long }) (c .before .before .before .before .before .demands-at .result) (c .before .before .before .before .before .demands-at .ensures) in
     let above = c .before .positive in
-    let e = sealed-is s g (a .bidders) (p .result .prices) (d .result .sets) (d .result .nulls) (above .result) (p .ensures .2) (above .ensures ∙ past-items s g (p .result .prices) (p .ensures .2))
-    (d .ensures .reported) (d .ensures .same) (p .result .raised) (p .result .lowered) (c .first .result) (p .ensures .0) (p .ensures .1) (c .first .ensures) ∙ sealed-closed (a .items) (a .bidders) (a .start .now) (a .bids .now) z in
+    let e = sealed-is s g (a .bidders) (p .result .prices) (c .before .before .before .before .before .demands-at .result .sets) (c .before .before .before .before .before .demands-at .result .nulls) (above .result) (p .ensures .2) (above .ensures ∙ past-items s g (p .result .prices) (p .ensures .2))
+    (d .reported) (d .same) (p .result .raised) (p .result .lowered) (c .first .result) (p .ensures .0) (p .ensures .1) (c .first .ensures) ∙ sealed-closed (a .items) (a .bidders) (a .start .now) (a .bids .now) z in
     (e, sealed-promised (a .items) (a .bidders) (a .start .now) (a .bids .now) _ e)
 
 pub sealed-spec : {M : Type 1} → statement M

@@ -1,17 +1,15 @@
--- `auction::demand_of` meets its contract. The items so far are those of the highest surplus. Assumes nothing.
+-- `demands::demand_of` meets its contract. The items so far are those of the highest surplus. Assumes nothing.
 use Prim.Native.Nat.{_-_, _≤_}
-use mathlib.Core.Path.{_≡_, refl}
+use mathlib.Core.Path.{_≡_, refl, _∙_}
 use native.Mathlib.Omega.{arith}
-use lib.Dec.{eqb}
 use lib.ListN.{length}
 use Rattle.sets.specs.Bit.{setOf}
 use Rattle.rule.specs.Demand.{best, demand}
 use Rattle.round.proofs.Adding.{add-next, add-end}
-use Rattle.bids.specs.Fit.{Small}
-use Rattle.auction.proofs.Surplus.{item-test, null-test}
+use Rattle.demands.proofs.Surplus.{item-test, null-test}
 use borrow.Author.Needs.{needs}
-use Rattle.auction.proofs.demand_of.Statement.{statement}
-use Rattle.auction.proofs.demand_of.Tie as tie
+use Rattle.demands.proofs.demand_of.Statement.{statement}
+use Rattle.demands.proofs.demand_of.Tie as tie
 
 abbrev Inv-loop : tie.InvT-loop
 Inv-loop prices line top items₀ i₀ items i = (i ≤ length line) × (items ≡ setOf i (best (length line) prices line))
@@ -20,7 +18,7 @@ abbrev μ-loop : tie.MeasureT-loop
 μ-loop prices line top items₀ i₀ items i = length line - i
 
 returns : tie.Need-returns Inv-loop μ-loop
-returns c = absurd (omega (arith, c .if1 .taken, c .before .before .pre .0))
+returns c = absurd (omega (arith, c .if1 .taken, c .before .before .pre))
 
 highest-requires : tie.Need-highest-requires Inv-loop μ-loop
 highest-requires c κs = search needs
@@ -32,24 +30,20 @@ loop-holds c = (omega arith, refl)
 add-add-item : tie.Need-add-add-item Inv-loop μ-loop
 add-add-item c = search needs
 
-mul-worth : tie.Need-mul-worth Inv-loop μ-loop
-mul-worth c = search needs
+mul-gives : tie.Need-mul-gives Inv-loop μ-loop
+mul-gives c = search needs
 
-shared-slice-read-worth : tie.Need-shared-slice-read-worth Inv-loop μ-loop
-shared-slice-read-worth c = search needs
+shared-slice-read-gives : tie.Need-shared-slice-read-gives Inv-loop μ-loop
+shared-slice-read-gives c = search needs
 
-mul-worth-2 : tie.Need-mul-worth-2 Inv-loop μ-loop
-mul-worth-2 c = search needs
+mul-gives-2 : tie.Need-mul-gives-2 Inv-loop μ-loop
+mul-gives-2 c = search needs
 
-element-copy-out-worth : tie.Need-element-copy-out-worth Inv-loop μ-loop
-element-copy-out-worth c = search needs
+element-copy-out-gives : tie.Need-element-copy-out-gives Inv-loop μ-loop
+element-copy-out-gives c = search needs
 
-worth-requires : tie.Need-worth-requires Inv-loop μ-loop
-unfolding Small
-worth-requires c κs =
-    let i = c .before .before .before .loop .i in
-    let pre = c .before .before .before .before .before .before .before .pre in
-    (pre .2 i, pre .1 i)
+gives-requires : tie.Need-gives-requires Inv-loop μ-loop
+gives-requires c κs = search needs
 
 add-item-requires : tie.Need-add-item-requires Inv-loop μ-loop
 add-item-requires c κs = search needs
@@ -65,11 +59,10 @@ loop-again c =
     let a = c .before .before .before .before .before .before .before .before .before .args in
     let top = c .before .before .before .before .before .before .highest in
     let at = c .before .before .before .before .before .loop in
-    let lt = c .before .before .before .before .loop-test .taken in
-    let w = c .before .worth in (
+    let lt = c .before .before .before .before .loop-test .taken in (
       omega (arith, lt),
-      add-next 32 (best (length (a .line .now)) (a .prices .now) (a .line .now)) (at .i) (omega (arith, lt, c .before .before .before .before .before .before .before .before .before .pre .0)) (at .items) (eqb (w .result) (top .result)) (c .add-item .result) (at .inv .1)
-          (item-test (length (a .line .now)) (a .prices .now) (a .line .now) (top .result) (top .ensures) (at .i) (w .result) lt (w .ensures)) (c .add-item .ensures),
+      add-next 32 (best (length (a .line .now)) (a .prices .now) (a .line .now)) (at .i) (omega (arith, lt, c .before .before .before .before .before .before .before .before .before .pre)) (at .items) (c .before .gives .result) (c .add-item .result) (at .inv .1)
+          (c .before .gives .ensures ∙ item-test (length (a .line .now)) (a .prices .now) (a .line .now) (top .result) (top .ensures) (at .i) lt) (c .add-item .ensures),
     )
 
 returns-2 : tie.Need-returns-2 Inv-loop μ-loop
@@ -92,11 +85,11 @@ demand-of-spec =
     highest-requires
     loop-holds
     add-add-item
-    mul-worth
-    shared-slice-read-worth
-    mul-worth-2
-    element-copy-out-worth
-    worth-requires
+    mul-gives
+    shared-slice-read-gives
+    mul-gives-2
+    element-copy-out-gives
+    gives-requires
     add-item-requires
     add-i
     loop-less

@@ -1,0 +1,45 @@
+-- The definitions applied to the smallest cases that tell a wrong one from them, by computation. The checker takes modules by name, and this one comes first.
+-- Assumes nothing.
+use mathlib.Core.Path.{_≡_, refl}
+use mathlib.Core.Bool.{true, false}
+use mathlib.Core.List.{List, [], _∷_}
+use lib.ListN.{take}
+use Rattle.sets.specs.Bit.{setOf}
+use Rattle.sets.specs.Lists.{tabulate, places}
+use Rattle.rule.specs.Demand.{Demand, nth}
+use Rattle.demands.specs.Demands.{complete, held}
+
+-- the definitions that the cases compute with
+computing : Unit {0}
+unfolding complete held setOf tabulate places nth
+computing = tt
+
+-- the most items and bidders, and one more of each
+pub most : complete 32 64 2048 ≡ true
+unfolding computing
+most = refl
+
+pub items-past : complete 33 1 33 ≡ false
+unfolding computing
+items-past = refl
+
+pub bidders-past : complete 1 65 65 ≡ false
+unfolding computing
+bidders-past = refl
+
+-- a bid too few
+pub bid-missing : complete 2 2 3 ≡ false
+unfolding computing
+bid-missing = refl
+
+-- bidder 1 demands item 1, bidder 2 item 2 and null
+abbrev two : List Demand
+two = record { null = false; items = 1 } ∷ record { null = true; items = 2 } ∷ []
+
+pub sets-held : take 3 (held two .sets) ≡ 1 ∷ 2 ∷ 0 ∷ []
+unfolding computing
+sets-held = refl
+
+pub null-held : held two .nulls ≡ 2
+unfolding computing
+null-held = refl

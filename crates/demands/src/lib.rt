@@ -1,0 +1,109 @@
+// What bidders demand at prices.
+ghost use mathlib.Core.Path.{_≡_};
+ghost use Prim.Native.Nat.{_+_, _-_, _≤_};
+ghost use lib.Dec.{eqb};
+ghost use lib.ListN.{length};
+ghost use Rattle.rule.specs.Sheet.{amount};
+ghost use Rattle.rule.specs.Demand.{demand};
+ghost use Rattle.rule.specs.Equilibrium.{greatest};
+ghost use Rattle.demands.specs.Demands.{complete, held, demandsOf};
+
+// The highest surplus of the items of the line, and of null, whose surplus is 0.
+fn highest(prices: &[u16; 32], line: &[u16]) -> u16
+    requires { ⌜ length (now line) ≤ 32 ⌝ }
+    ensures { λ r. ⌜ r ≡ greatest (length (now (line .entry))) (λ i. amount (now (line .entry)) i - amount (now (prices .entry)) i) ⌝ }
+{
+    let mut top: u16 = 0;
+    let mut i: usize = 0;
+    while i < line.len() {
+        top = prices::larger(top, prices::over(line[i], prices[i]));
+        i += 1;
+    }
+    top
+}
+
+// Whether the surplus of an item is this much.
+fn gives(bid: u16, price: u16, surplus: u16) -> bool
+    ensures { λ r. ⌜ r ≡ eqb bid (price + surplus) ⌝ }
+{
+    if bid < price {
+        return false;
+    }
+    bid - price == surplus
+}
+
+// A demand: whether null, and which items.
+struct Demand {
+    null: bool,
+    items: u32,
+}
+
+// The demand of the bidder whose bids are the line.
+fn demand_of(prices: &[u16; 32], line: &[u16]) -> Demand
+    requires { ⌜ length (now line) ≤ 32 ⌝ }
+    ensures { λ r. ⌜ (r .null ≡ demand (length (now (line .entry))) (now (prices .entry)) (now (line .entry)) .null)
+        × (r .items ≡ demand (length (now (line .entry))) (now (prices .entry)) (now (line .entry)) .items) ⌝ }
+{
+    // No line is longer. The test tells the compiler so, which then takes several items at a time.
+    if 32 < line.len() {
+        return Demand {
+            null: false,
+            items: 0,
+        };
+    }
+    let top = highest(prices, line);
+    let mut items: u32 = 0;
+    let mut i: usize = 0;
+    while i < line.len() {
+        items = round::add_item(items, i + 1, gives(line[i], prices[i], top));
+        i += 1;
+    }
+    Demand {
+        null: top == 0,
+        items: items,
+    }
+}
+
+// Whether there are so many bids as the counts say, and the counts are within the limits.
+fn complete(items: usize, bidders: usize, bids: usize) -> bool
+    ensures { λ r. ⌜ r ≡ complete items bidders bids ⌝ }
+{
+    if 32 < items {
+        return false;
+    }
+    if 64 < bidders {
+        return false;
+    }
+    bids == bidders * items
+}
+
+// The demands of all bidders: an item set for each, and the set of those who demand null.
+pub struct Demands {
+    pub sets: [u32; 64],
+    pub nulls: u64,
+}
+
+// The demands at prices, by bids that stand bidder after bidder; zeros where the bids are not complete.
+pub fn demands_at(prices: &[u16; 32], bids: &[u16], items: usize, bidders: usize) -> Demands
+    ensures { λ r. ⌜ r ≡ held (demandsOf items bidders (now (prices .entry)) (now (bids .entry))) ⌝ }
+{
+    let mut sets = [0u32; 64];
+    let mut nulls: u64 = 0;
+    if !complete(items, bidders, bids.len()) {
+        return Demands {
+            sets: sets,
+            nulls: nulls,
+        };
+    }
+    let mut b: usize = 0;
+    while b < bidders {
+        let d = demand_of(prices, bids::row(bids, items, b as u16));
+        sets[b] = d.items;
+        nulls = round::add_bidder(nulls, b + 1, d.null);
+        b += 1;
+    }
+    Demands {
+        sets: sets,
+        nulls: nulls,
+    }
+}
