@@ -1,4 +1,5 @@
 pub mod Digits
+pub mod Halves
 pub mod Stands
 pub mod Gives
 pub mod Numbers

@@ -1,6 +1,6 @@
 -- Fewer than 32 items and 64 bidders: where nothing is reported past m items and n bidders, and no price is above 0 past m, the sets at 32 and 64 are
 -- those at m and n. Assumes nothing.
-use Prim.Native.Nat.{ℕ, suc, _^_, _≤_, _<_}
+use Prim.Native.Nat.{ℕ, zero, suc, _^_, _≤_, _<_}
 use mathlib.Core.Path.{_≡_, refl, sym, ap, _∙_, subst}
 use mathlib.Core.Bool.{Bool, true, false, _&&_, not}
 use mathlib.Core.List.{List, map}
@@ -10,12 +10,13 @@ use native.Mathlib.Nat.{lt-of-lt-of-le}
 use lib.Dec.{ltb}
 use lib.ListN.{length, getD, length-map, List·getD-eq-default}
 use lib.Pow.{pow-mono}
-use Rattle.sets.specs.Bit.{isSet, has, setOf}
-use Rattle.sets.proofs.Counting.{lt-or-le, and-right, not-both, is-false}
+use Rattle.sets.specs.Count.{_⇒_, allBelow, anyBelow}
+use Rattle.sets.specs.Bit.{isSet, has, setOf, each, any}
+use Rattle.sets.proofs.Counting.{lt-or-le, and-left, and-right, imp-make, not-both, is-false, together, all-use, all-make, any-use, any-make}
 use Rattle.sets.proofs.Members.{isSet-above, empty-has, has-past, setOf-lt, isSet-setOf, is-setOf}
 use Rattle.rule.specs.Sheet.{amount}
-use Rattle.rule.specs.Demand.{Demand, nth}
-use Rattle.rule.specs.Excess.{excessDemand, positiveExcessDemand, excessSupply, positive}
+use Rattle.rule.specs.Demand.{Demand, wants, nth}
+use Rattle.rule.specs.Excess.{somethingIn, nothingOutside, excessDemand, positiveExcessDemand, excessSupply, positive}
 use Rattle.rule.proofs.Profile.{active, inside, active-small}
 use Rattle.rule.proofs.Lower.{rising-wide, positive-wide}
 use Rattle.round.specs.Reports.{reports, Reported}
@@ -98,3 +99,40 @@ module _ (m n : ℕ) (sets : List ℕ) (r : Reported m n sets) (nulls : ℕ) whe
         ap (λ (s : ℕ). setOf 32 (λ i. has above i && not (has s i))) kept-narrow
         ∙ setOf-narrow m 32 (λ i. has above i && not (has (positiveExcessDemand m above (reports n sets nulls)) i)) (r .max-items)
         (λ k l lk. ap (λ (b : Bool). b && not (has (positiveExcessDemand m above (reports n sets nulls)) (suc k))) (has-past m above (suc k) la (omega arith)))
+
+-- ---- what a demand holds
+
+module _ (m : ℕ) (lm : m ≤ 32) (s : ℕ) (d : Demand) (small : d .items < 2 ^ m) where
+  -- no item past m is demanded
+  not-past : (i : ℕ) → m < i → wants d i ≡ true → ⊥
+  unfolding wants
+  not-past zero l h = omega arith
+  not-past (suc k) l h = not-both (has (d .items) (suc k)) h (has-past m (d .items) (suc k) small l)
+
+  pub outside-narrow : nothingOutside 32 s d ≡ nothingOutside m s d
+  unfolding each
+  outside-narrow = together (nothingOutside 32 s d) (nothingOutside m s d) to back
+    where
+      test : ℕ → Bool
+      test i = wants d i ⇒ has s i
+
+      to : allBelow 33 test ≡ true → allBelow (suc m) test ≡ true
+      to h = all-make (suc m) test (λ i l. all-use 33 test h i (omega arith))
+
+      back : allBelow (suc m) test ≡ true → allBelow 33 test ≡ true
+      back h = all-make 33 test (λ i l. elim (lt-or-le i (suc m)) [ inl q ↦ all-use (suc m) test h i q | inr q ↦ imp-make (wants d i) (has s i) (λ w. absurd (not-past i q w)) ])
+
+  pub something-narrow : somethingIn 32 s d ≡ somethingIn m s d
+  unfolding any
+  something-narrow = together (somethingIn 32 s d) (somethingIn m s d) to back
+    where
+      test : ℕ → Bool
+      test i = wants d i && has s i
+
+      to : anyBelow 33 test ≡ true → anyBelow (suc m) test ≡ true
+      to h =
+          let w = any-use 33 test h in
+          elim (lt-or-le (w .0) (suc m)) [ inl q ↦ any-make (suc m) test (w .0) q (w .2) | inr q ↦ absurd (not-past (w .0) q (and-left (wants d (w .0)) (has s (w .0)) (w .2))) ]
+
+      back : anyBelow (suc m) test ≡ true → anyBelow 33 test ≡ true
+      back h = let w = any-use (suc m) test h in any-make 33 test (w .0) (omega (arith, w .1)) (w .2)

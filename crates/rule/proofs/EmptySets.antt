@@ -3,7 +3,7 @@
 -- does at prices: who demands nothing demands nothing outside the empty set either, and would overdemand it. So at the closing prices there is neither, and at
 -- no others, which is theorem 1 of the paper. THEORY.md 1.5 and 1.6. Assumes nothing.
 use Prim.Native.Nat.{ℕ, suc, _^_, _<_}
-use mathlib.Core.Path.{_≡_, refl, sym, ap, _∙_}
+use mathlib.Core.Path.{_≡_, sym, ap, _∙_}
 use mathlib.Core.Bool.{Bool, true, false, _&&_, not}
 use mathlib.Core.List.{List}
 use native.Mathlib.Omega.{arith}
@@ -12,7 +12,7 @@ use lib.ListN.{length}
 use borrow.Author.Tests.{ltb-true, lt-ltb, le-ltb, leb-true, le-leb, eqb-true, eq-eqb}
 use Rattle.sets.specs.Count.{_⇒_, allBelow}
 use Rattle.sets.specs.Bit.{has, setOf, each, any, size}
-use Rattle.sets.proofs.Counting.{count-mono, and-left, and-right, and-both, imp-use, imp-make, all-use, all-make, any-use, any-make, not-both, not-is, is-false}
+use Rattle.sets.proofs.Counting.{count-mono, and-left, and-right, and-both, imp-use, imp-make, all-use, all-make, any-use, any-make, not-both, not-is, is-false, together}
 use Rattle.sets.proofs.Members.{agree, has-zero, empty-has, none-zero, size-count}
 use Rattle.rule.specs.Sheet.{Sheet}
 use Rattle.rule.specs.Demand.{Demand, demands, wants, nth}
@@ -23,12 +23,6 @@ use Rattle.rule.proofs.Tests.{CrowdOf, crowded-use, crowded-make, crowd
 use Rattle.rule.proofs.Largest.{demand-excess, demand-bound, demand-has, positive-above, positive-crowded, positive-has, positive-make, supply-has, supply-empty, supply-bound}
 use Rattle.rule.proofs.Overdemand.{Calm, Enough, enough, drawn, drawn-few}
 use Rattle.rule.proofs.AtPrices.{demands-some}
-
--- two tests that pass together are the same
-together : (a b : Bool) → (a ≡ true → b ≡ true) → (b ≡ true → a ≡ true) → a ≡ b
-together true b to back = sym (to refl)
-together false true to back = back refl
-together false false to back = refl
 
 -- of a crowded set s: more of the bidders who count than a non-empty part t of it has items demand something in t
 part-crowded : (m : ℕ) (ds : List Demand) (counts : Demand → Bool) (s t i : ℕ) → t < 2 ^ m → i < suc m → has t i ≡ true

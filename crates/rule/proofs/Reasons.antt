@@ -9,7 +9,7 @@ use lib.ListN.{length, length-map}
 use borrow.Author.Tests.{ltb-true, leb-true}
 use Rattle.sets.specs.Bit.{isSet, setOf, size}
 use Rattle.sets.proofs.Counting.{count-cong, and-right}
-use Rattle.sets.proofs.Members.{isSet-setOf}
+use Rattle.sets.proofs.Members.{isSet-setOf, setOf-cong}
 use Rattle.rule.specs.Sheet.{Sheet}
 use Rattle.rule.specs.Demand.{Demand, demands, nth}
 use Rattle.rule.specs.Excess.{bidders, nonEmptyPart, somethingIn, nothingOutside, overdemanded, weaklyUnderdemanded, excessDemand, excessSupply, positive}
@@ -28,6 +28,14 @@ size-with ds f = count-cong (length ds) _ _ at
   where
     at : (b : ℕ) → b < length ds → isSet (setOf (length ds) λ j. f (nth ds (j - 1))) b ≡ f (nth ds b)
     at b l = let e : suc b - 1 ≡ b = omega arith in isSet-setOf (length ds) (λ j. f (nth ds (j - 1))) b l ∙ ap (λ (j : ℕ). f (nth ds j)) e
+
+-- two tests that say the same of each bidder's demand
+pub with-same : (ds : List Demand) (f g : Demand → Bool) → ((b : ℕ) → b < length ds → f (nth ds b) ≡ g (nth ds b)) → biddersWith ds f ≡ biddersWith ds g
+unfolding biddersWith
+with-same ds f g h = setOf-cong (length ds) _ _ at
+  where
+    at : (b : ℕ) → b < length ds → f (nth ds (suc b - 1)) ≡ g (nth ds (suc b - 1))
+    at b l = let e : b ≡ suc b - 1 = omega arith in subst (λ (j : ℕ). f (nth ds j) ≡ g (nth ds j)) e (h b l)
 
 -- ---- whatever the demands are
 

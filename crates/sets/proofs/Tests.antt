@@ -87,6 +87,12 @@ pub is-false : (a : Bool) → (a ≡ true → ⊥) → a ≡ false
 is-false true h = absurd (h refl)
 is-false false h = refl
 
+-- two tests that pass together are the same
+pub together : (a b : Bool) → (a ≡ true → b ≡ true) → (b ≡ true → a ≡ true) → a ≡ b
+together true b to back = sym (to refl)
+together false true to back = back refl
+together false false to back = refl
+
 pub less-make : (a b : Bool) → a ≡ true → (b ≡ true → ⊥) → a && not b ≡ true
 less-make a true p h = absurd (h refl)
 less-make a false p h = rw p

@@ -1,0 +1,4 @@
+pub mod Tests
+pub mod Reasoning
+pub mod Lines
+pub mod Along

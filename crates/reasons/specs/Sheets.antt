@@ -1,0 +1,28 @@
+-- The sheet of reasons: document 02, #101. Assumes nothing: these are definitions.
+use Prim.Native.Nat.{ℕ, _+_}
+use mathlib.Core.Bool.{cond}
+use mathlib.Core.List.{List, [], _++_}
+use lib.Dec.{ltb}
+use lib.ListN.{length}
+use Rattle.digits.specs.Digits.{hex}
+use Rattle.lines.specs.Lines.{newline, joined, numberLine}
+use Rattle.rule.specs.Sheet.{Sheet}
+use Rattle.rule.specs.Reasons.{Reason, reasonAt, roundCount}
+use Rattle.sheet.specs.Close.{byNumber, sheetRefusal}
+use Rattle.sheet.specs.Accepted.{sheetIn}
+
+-- a round's line: its number in 4 digits, its kind in 2 (01 raised, 02 lowered), the set of items (pans) in 8 and that of the bidders (rakers) in 16
+unfoldable pub reasonLine : ℕ → Reason → List ℕ
+reasonLine number r = hex 4 number ++ hex 2 (r .kind) ++ hex 8 (r .items) ++ hex 16 (r .bidders) ++ newline
+
+-- a line for each round of a sheet's path to its close, the first being round 1
+unfoldable pub reasonSheet : Sheet → List ℕ
+reasonSheet s = joined (roundCount s) λ k. reasonLine (k + 1) (reasonAt s k)
+
+-- the whole answer to a bid sheet: its sheet of reasons, or the line of the number that turns it down
+unfoldable pub reasonsIn : List ℕ → List ℕ
+reasonsIn bytes = byNumber (sheetRefusal bytes 271) (reasonSheet (sheetIn bytes)) (numberLine (sheetRefusal bytes 271))
+
+-- what is written where so many bytes are lent: all of it, or nothing where that does not fit
+unfoldable pub answerOf : List ℕ → (room : ℕ) → List ℕ
+answerOf bytes room = cond (ltb room (length (reasonsIn bytes))) [] (reasonsIn bytes)

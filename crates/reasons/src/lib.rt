@@ -1,0 +1,142 @@
+// The sheet of reasons: why each round of a bid sheet's path moved its set.
+ghost use mathlib.Core.Path.{_≡_};
+ghost use mathlib.Core.Bool.{cond};
+ghost use Prim.Native.Nat.{_+_, _*_, _≤_};
+ghost use lib.ListN.{length};
+ghost use lib.Seq.{sets};
+ghost use Rattle.rule.specs.Demand.{demands};
+ghost use Rattle.rule.specs.Excess.{positive};
+ghost use Rattle.rule.specs.Round.{close};
+ghost use Rattle.rule.specs.Reasons.{biddersWith, roundCount};
+ghost use Rattle.round.specs.Reports.{reports};
+ghost use Rattle.lines.specs.Lines.{writtenTo};
+ghost use Rattle.bids.specs.Lent.{rowsOf, sheetOf};
+ghost use Rattle.bids.specs.Refusal.{sealedRefusal};
+ghost use Rattle.reasons.specs.Sheets.{reasonLine, reasonSheet, answerOf};
+ghost use Rattle.reasons.specs.Steps.{countsFor, movingSet, ReasonIs, pricesAfter};
+
+// ---- a round: `falls` says whether it lowers, from the turn on, or raises
+
+// Whether a demand counts: for a fall one that holds something in the set, for a rise one that holds nothing outside it.
+fn counts(items: u32, null: bool, set: u32, falls: bool) -> bool
+    ensures { λ r. ⌜ r ≡ countsFor falls 32 set (record { null = null; items = items }) ⌝ }
+{
+    if falls {
+        return sets::common_items(items, set) != 0;
+    }
+    if null {
+        return false;
+    }
+    sets::other_items(items, set) == 0
+}
+
+// The bidders whose demands count.
+fn who(sets: &[u32; 64], nulls: u64, bidders: usize, set: u32, falls: bool) -> u64
+    requires { ⌜ bidders ≤ 64 ⌝ }
+    ensures { λ r. ⌜ r ≡ biddersWith (reports bidders (now (sets .entry)) nulls) (countsFor falls 32 set) ⌝ }
+{
+    let mut g: u64 = 0;
+    let mut b: usize = 0;
+    while b < bidders {
+        g = round::add_bidder(
+            g,
+            b + 1,
+            counts(sets[b], sets::has_bidder(nulls, b + 1), set, falls),
+        );
+        b += 1;
+    }
+    g
+}
+
+// The set that moves: of the demands the rising set, or the falling set.
+fn moving(sets: &[u32; 64], nulls: u64, above: u32, falls: bool) -> u32
+    ensures { λ r. ⌜ r ≡ movingSet falls 32 above (reports 64 (now (sets .entry)) nulls) ⌝ }
+{
+    if falls {
+        return round::falling(sets, above);
+    }
+    round::rising(sets, nulls)
+}
+
+// The kind's number: 1 raised, 2 lowered.
+fn kind(falls: bool) -> u32
+    ensures { λ r. ⌜ r ≡ cond falls 2 1 ⌝ }
+{
+    if falls {
+        return 2;
+    }
+    1
+}
+
+// A round's kind, the set that moves, and the bidders whose demands count.
+struct Reason {
+    kind: u32,
+    items: u32,
+    bidders: u64,
+}
+
+// The reason of the round at prices.
+fn reason_at(prices: &[u16; 32], bids: &[u16], items: usize, bidders: usize, falls: bool) -> Reason
+    requires { ⌜ (items ≤ 32) × (bidders ≤ 64) × (length (now bids) ≡ bidders * items) × (positive 32 (now prices) ≡ positive items (now prices)) ⌝ }
+    ensures { λ r. ⌜ ReasonIs items (positive items (now (prices .entry))) (demands items (rowsOf items bidders (now (bids .entry))) (now (prices .entry))) falls r ⌝ }
+{
+    let d = demands::demands_at(prices, bids, items, bidders);
+    let sets = d.sets;
+    let nulls = d.nulls;
+    let set = moving(&sets, nulls, round::positive(prices), falls);
+    Reason {
+        kind: kind(falls),
+        items: set,
+        bidders: who(&sets, nulls, bidders, set, falls),
+    }
+}
+
+// The prices after the round.
+fn moved(prices: &[u16; 32], set: u32, falls: bool) -> [u16; 32]
+    ensures { λ r. ⌜ r ≡ pricesAfter falls (now (prices .entry)) set ⌝ }
+{
+    if falls {
+        return prices::lowered(prices, set);
+    }
+    prices::raised(prices, set)
+}
+
+// ---- the sheet
+
+// A round's line, from `at` on. The bidders are written in two halves.
+fn put_line(out: &mut [u8], at: usize, number: u32, kind: u32, items: u32, bidders: u64)
+    requires { ⌜ at + 31 ≤ length (now out) ⌝ }
+    ensures { λ _. ⌜ now (out .exit) ≡ sets (now (out .entry)) at (reasonLine number (record { kind = kind; items = items; bidders = bidders })) ⌝ }
+{
+    digits::write_number(out, at, 4, number);
+    digits::write_number(out, at + 4, 2, kind);
+    digits::write_number(out, at + 6, 8, items);
+    digits::write_number(out, at + 14, 8, (bidders / 4294967296) as u32);
+    digits::write_number(out, at + 22, 8, (bidders % 4294967296) as u32);
+    out[at + 30] = b'\n';
+}
+
+// The lines of all rounds, of which the first so many raise.
+fn put_rounds(
+    start: &[u16],
+    bids: &[u16],
+    items: usize,
+    bidders: usize,
+    raised: usize,
+    rounds: usize,
+    out: &mut [u8],
+)
+    requires { ⌜ (sealedRefusal items bidders (now start) (now bids) ≡ 0) × (raised ≡ close (sheetOf items bidders (now start) (now bids)) .ups)
+        × (rounds ≡ roundCount (sheetOf items bidders (now start) (now bids))) × (31 * rounds ≤ length (now out)) ⌝ }
+    ensures { λ _. ⌜ now (out .exit) ≡ sets (now (out .entry)) 0 (reasonSheet (sheetOf items bidders (now (start .entry)) (now (bids .entry)))) ⌝ }
+{
+    let mut p = prices::in_places(start);
+    let mut k: usize = 0;
+    while k < rounds {
+        let falls = raised <= k;
+        let r = reason_at(&p, bids, items, bidders, falls);
+        put_line(out, 31 * k, k as u32 + 1, r.kind, r.items, r.bidders);
+        p = moved(&p, r.items, falls);
+        k += 1;
+    }
+}
