@@ -7,21 +7,14 @@ use mathlib.Core.Logic.{_⊎_, inl, inr}
 use native.Mathlib.Omega.{arith}
 use native.Mathlib.Nat.{min-eq-left, min-eq-right, min-le-right}
 use lib.ListN.{length, take}
-use lib.Seq.{length-take-le, getD-take, take-all, ext-getD}
+use lib.Seq.{length-take-le, take-all}
 use Rattle.sets.specs.Lists.{places}
 use Rattle.sets.proofs.Counting.{lt-or-le}
-use Rattle.sets.proofs.Lists.{places-length, places-at}
+use Rattle.sets.proofs.Lists.{places-length, take-places}
 use Rattle.rule.specs.Refusal.{badItems, badBidders}
 use Rattle.rule.proofs.Refusal.{in-range}
 use Rattle.live.specs.Calls.{openAuction}
 use Rattle.live.proofs.Opening.{one, two, three}
-
--- a list that has no more places than there are is its part of them
-few : (xs : List ℕ) → length xs ≤ 33 → take (length xs) (places 33 xs) ≡ xs
-few xs l =
-    let long : length (take (length xs) (places 33 xs)) ≡ length xs = length-take-le (length xs) (places 33 xs) (omega (arith, places-length 33 xs)) in
-    ext-getD 0 (take (length xs) (places 33 xs)) xs long
-    (λ i h. let small : i < length xs = omega (arith, h, long) in getD-take (length xs) (places 33 xs) i 0 small ∙ places-at 33 xs i (omega arith))
 
 -- two lists of more than 32 starting prices get the same number
 same : (m n : ℕ) (xs ys : List ℕ) → 32 < length xs → 32 < length ys → openAuction m n xs ≡ openAuction m n ys
@@ -41,7 +34,7 @@ pub first-33 : (m n : ℕ) (xs : List ℕ) (k : ℕ) → k ≡ min (length xs) 3
 first-33 m n xs k q = go (lt-or-le 33 (length xs))
   where
     go : (33 < length xs) ⊎ (length xs ≤ 33) → openAuction m n (take k (places 33 xs)) ≡ openAuction m n xs
-    go (inr l) = ap (openAuction m n) (ap (λ (j : ℕ). take j (places 33 xs)) (q ∙ min-eq-left l) ∙ few xs l)
+    go (inr l) = ap (openAuction m n) (ap (λ (j : ℕ). take j (places 33 xs)) (q ∙ min-eq-left l) ∙ take-places 33 xs l)
     go (inl l) =
         let at : k ≡ 33 = q ∙ min-eq-right (omega arith) in
         let whole : take k (places 33 xs) ≡ places 33 xs = ap (λ (j : ℕ). take j (places 33 xs)) at ∙ take-all 33 (places 33 xs) (omega (arith, places-length 33 xs)) in

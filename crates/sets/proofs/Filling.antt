@@ -1,12 +1,12 @@
 -- A list of w places that a loop fills one after the other. Assumes nothing.
-use Prim.Native.Nat.{ℕ, _+_, _≤_, _<_}
+use Prim.Native.Nat.{ℕ, _+_, _-_, _≤_, _<_}
 use mathlib.Core.Path.{_≡_, sym, ap, _∙_}
-use mathlib.Core.List.{List}
+use mathlib.Core.List.{List, _++_}
 use mathlib.Core.Logic.{_⊎_, inl, inr}
 use native.Mathlib.Omega.{arith}
 use native.Mathlib.Nat.{zero-add}
-use lib.ListN.{length, getD, set, length-set, length-replicate, replicate, getD-replicate, List·getD-eq-default}
-use lib.Seq.{getD-set-same, getD-set-other}
+use lib.ListN.{length, getD, drop, set, length-set, length-replicate, length-append, length-drop, replicate, getD-replicate, List·getD-append, List·getD-eq-default}
+use lib.Seq.{getD-set-same, getD-set-other, getD-drop, getD-append-add}
 use borrow.Author.Count.{below-none, below-more}
 use Rattle.sets.specs.Lists.{tabulate, places}
 use Rattle.sets.proofs.Counting.{lt-or-le}
@@ -50,3 +50,20 @@ fill-places w ys i xs t l = is-tabulate w xs (λ k. getD ys k 0) 0 (t .long) (λ
     at : (k : ℕ) → (k < i) ⊎ (i ≤ k) → getD xs k 0 ≡ getD ys k 0
     at k (inl q) = t .done k q
     at k (inr q) = t .zeros k q ∙ sym (List·getD-eq-default ys 0 {n = k} (omega arith))
+
+-- m numbers before zeros
+pub front-places : (w m : ℕ) (xs : List ℕ) → m ≤ w → length xs ≡ m → xs ++ drop m (replicate w 0) ≡ places w xs
+front-places w m xs l e =
+    let rest : List ℕ = drop m (replicate w 0) in
+    fill-places w xs m (xs ++ rest)
+    (record {
+      most = l;
+      long = omega (arith, length-append xs rest, length-drop {A = ℕ} m (replicate w 0), length-replicate {A = ℕ} w 0);
+      done = λ k q. List·getD-append xs rest 0 k (omega arith);
+      zeros =
+          λ k q.
+          let f : k ≡ length xs + (k - length xs) = omega arith in
+          ap (λ (j : ℕ). getD (xs ++ rest) j 0) f ∙ getD-append-add xs rest (k - length xs) 0 ∙ getD-drop m (replicate w 0) (k - length xs) 0
+          ∙ zeros-at w (m + (k - length xs));
+    })
+    (omega arith)

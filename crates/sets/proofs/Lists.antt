@@ -4,8 +4,8 @@ use mathlib.Core.Path.{_≡_, refl, sym, ap, ap₂, _∙_, subst}
 use mathlib.Core.List.{List, _∷_}
 use native.Mathlib.Omega.{arith}
 use native.Mathlib.Nat.{not-suc-le-zero, add-zero, zero-add}
-use lib.ListN.{length, getD}
-use lib.Seq.{ext-getD}
+use lib.ListN.{length, getD, take}
+use lib.Seq.{ext-getD, length-take-le, getD-take}
 use Rattle.sets.specs.Lists.{tabulate, places}
 
 pub tabulate-length : {A : Type 0} (n : ℕ) (f : ℕ → A) (i : ℕ) → length (tabulate n f i) ≡ n
@@ -42,6 +42,13 @@ places-length w xs = tabulate-length w (λ k. getD xs k 0) 0
 pub places-at : (w : ℕ) (xs : List ℕ) (k : ℕ) → k < w → getD (places w xs) k 0 ≡ getD xs k 0
 unfolding places
 places-at w xs k l = tabulate-at w (λ k. getD xs k 0) 0 k 0 l ∙ ap (λ (j : ℕ). getD xs j 0) (zero-add k)
+
+-- a list that has no more numbers than there are places is its part of them
+pub take-places : (w : ℕ) (xs : List ℕ) → length xs ≤ w → take (length xs) (places w xs) ≡ xs
+take-places w xs l =
+    let long : length (take (length xs) (places w xs)) ≡ length xs = length-take-le (length xs) (places w xs) (omega (arith, places-length w xs)) in
+    ext-getD 0 (take (length xs) (places w xs)) xs long
+    (λ k h. let small : k < length xs = omega (arith, h, long) in getD-take (length xs) (places w xs) k 0 small ∙ places-at w xs k (omega arith))
 
 -- a list of w numbers that has in each place what f says is the list of f
 pub is-tabulate : (w : ℕ) (l : List ℕ) (f : ℕ → ℕ) (i : ℕ) → length l ≡ w → ((k : ℕ) → k < w → getD l k 0 ≡ f (i + k)) → l ≡ tabulate w f i

@@ -10,12 +10,14 @@ use Rattle.bids.specs.Refusal.{sealedRefusal}
 use Rattle.auction.specs.Sealed.{sealedOf}
 use Rattle.auction.proofs.Sealing.{sealed-number}
 
-pub by-amounts-alone : (m n : ℕ) (start bids : List ℕ) → badItems m ≡ false → badBidders n ≡ false → length start ≡ m → length bids ≡ n * m
-    → sealedOf m n start bids .refusal ≡ first (on 4 (anyOver start) ∷ on 5 (anyOver bids) ∷ [])
-unfolding sealedRefusal
-by-amounts-alone m n start bids g h k l =
-    sealed-number m n start bids
-    ∙ passed 1 (badItems m) _ g
-    ∙ passed 2 (badBidders n) _ h
-    ∙ passed 3 (badLength start m) _ (exact start m k)
-    ∙ passed 3 (badLength bids (n * m)) _ (exact bids (n * m) l)
+module _ (m n : ℕ) (start bids : List ℕ) (g : badItems m ≡ false) (h : badBidders n ≡ false) (k : length start ≡ m) (l : length bids ≡ n * m) where
+  pub amounts-alone : sealedRefusal m n start bids ≡ first (on 4 (anyOver start) ∷ on 5 (anyOver bids) ∷ [])
+  unfolding sealedRefusal
+  amounts-alone =
+      passed 1 (badItems m) _ g
+      ∙ passed 2 (badBidders n) _ h
+      ∙ passed 3 (badLength start m) _ (exact start m k)
+      ∙ passed 3 (badLength bids (n * m)) _ (exact bids (n * m) l)
+
+  pub by-amounts-alone : sealedOf m n start bids .refusal ≡ first (on 4 (anyOver start) ∷ on 5 (anyOver bids) ∷ [])
+  by-amounts-alone = sealed-number m n start bids ∙ amounts-alone

@@ -25,32 +25,26 @@ by-some zero h a b = absurd (h refl)
 by-some (suc why) h a b = refl
 
 -- a number is given, and nothing is written
-pub turned-down : (bytes out : List ℕ) (r : Outcome) (why : ℕ) → sheetRefusal bytes (length out) ≡ suc why → r .refusal ≡ suc why → r .length ≡ 0
+pub turned-down : (bytes out : List ℕ) (r : Outcome) (why : ℕ) → (why ≡ 0 → ⊥) → sheetRefusal bytes (length out) ≡ why → r .refusal ≡ why → r .length ≡ 0
     → Closed bytes out r out
 unfolding closedTo
-turned-down bytes out r why e f g =
+turned-down bytes out r why ne e f g =
+    let some-given : sheetRefusal bytes (length out) ≡ 0 → ⊥ = λ z. ne (sym e ∙ z) in
     record {
       number = f ∙ sym e;
-      written = g ∙ ap (λ (k : ℕ). byNumber k (length (closingOf (bidSheetOf bytes))) 0) (sym e);
-      lent = ap (λ (k : ℕ). byNumber k (writtenTo out (closingOf (bidSheetOf bytes))) out) (sym e);
+      written = g ∙ sym (by-some (sheetRefusal bytes (length out)) some-given (length (closingOf (bidSheetOf bytes))) 0);
+      lent = sym (by-some (sheetRefusal bytes (length out)) some-given (writtenTo out (closingOf (bidSheetOf bytes))) out);
     }
 
 -- a sheet that was read comes out as its bytes do
-pub by-read : (bytes out : List ℕ) (s : BidSheet) (r : Outcome) (after : List ℕ) → bidSheetOf bytes ≡ s → sheetRefusal bytes (length out) ≡ readRefusal s (length out)
-    → ClosedRead s out r after → Closed bytes out r after
+pub by-read : (bytes out : List ℕ) (r : Outcome) (after : List ℕ) → sheetRefusal bytes (length out) ≡ readRefusal (bidSheetOf bytes) (length out)
+    → ClosedRead (bidSheetOf bytes) out r after → Closed bytes out r after
 unfolding closedTo
-by-read bytes out s r after same e c =
-    let n : ℕ = sheetRefusal bytes (length out) in
+by-read bytes out r after e c =
     record {
       number = c .number ∙ sym e;
-      written =
-          c .written
-          ∙ ap (λ (k : ℕ). byNumber k (length (closingOf s)) 0) (sym e)
-          ∙ ap (λ (x : BidSheet). byNumber n (length (closingOf x)) 0) (sym same);
-      lent =
-          c .lent
-          ∙ ap (λ (k : ℕ). byNumber k (writtenTo out (closingOf s)) out) (sym e)
-          ∙ ap (λ (x : BidSheet). byNumber n (writtenTo out (closingOf x)) out) (sym same);
+      written = c .written ∙ ap (λ (k : ℕ). byNumber k (length (closingOf (bidSheetOf bytes))) 0) (sym e);
+      lent = c .lent ∙ ap (λ (k : ℕ). byNumber k (writtenTo out (closingOf (bidSheetOf bytes))) out) (sym e);
     }
 
 module _ (m n : ℕ) (start bids out : List ℕ) where

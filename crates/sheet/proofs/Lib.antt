@@ -8,7 +8,9 @@ pub mod Ends
 pub mod Answers
 pub mod BidLines
 pub mod ReadWritten
+pub mod Readable
 pub mod Sixes
 pub mod Longer
+pub mod Reading
 pub mod Room
 pub mod Accepted

@@ -135,12 +135,25 @@ module _ (bytes : List ℕ) (m n : ℕ) (start bids : List ℕ) where
         whole bytes (bidSheet sheet) (subst (λ (vs : List ℕ). Stands bytes 0 vs) (sym (by-parts sheet)) all) long,
       )
 
-pub written-read : (bytes : List ℕ) (s : BidSheet) → readSheet bytes ≡ some s → Writable s × (bytes ≡ bidSheet s)
-unfolding readSheet sheet
-written-read bytes s e =
+-- what was read is what stands where it is read
+pub parts-are : (bytes : List ℕ) (s : BidSheet) → readSheet bytes ≡ some s
+    → (itemsIn bytes ≡ some (s .items)) × (biddersIn bytes ≡ some (s .bidders)) × (lineAt (s .items) 4 bytes 4 ≡ some (s .start))
+    × (bidsAt (s .bidders) (s .items) bytes (5 + 4 * s .items) ≡ some (s .bids))
+unfolding readSheet
+parts-are bytes s e =
     let f = gave (itemsIn bytes) _ s e in
     let g = gave (biddersIn bytes) _ s (f .2) in
     let h = gave (lineAt (f .0) 4 bytes 4) _ s (g .2) in
     let k = gave (bidsAt (g .0) (f .0) bytes (5 + 4 * f .0)) _ s (h .2) in
-    subst (λ (x : BidSheet). Writable x × (bytes ≡ bidSheet x)) (Option·some-injective (record { items = f .0; bidders = g .0; start = h .0; bids = k .0 }) s (k .2))
-    (parts-read bytes (f .0) (g .0) (h .0) (k .0) (f .1) (g .1) (h .1) (k .1))
+    subst
+    (λ (x : BidSheet).
+    (itemsIn bytes ≡ some (x .items)) × (biddersIn bytes ≡ some (x .bidders)) × (lineAt (x .items) 4 bytes 4 ≡ some (x .start))
+    × (bidsAt (x .bidders) (x .items) bytes (5 + 4 * x .items) ≡ some (x .bids)))
+    (Option·some-injective (record { items = f .0; bidders = g .0; start = h .0; bids = k .0 }) s (k .2))
+    (f .1, g .1, h .1, k .1)
+
+pub written-read : (bytes : List ℕ) (s : BidSheet) → readSheet bytes ≡ some s → Writable s × (bytes ≡ bidSheet s)
+unfolding sheet
+written-read bytes s e =
+    let p = parts-are bytes s e in
+    parts-read bytes (s .items) (s .bidders) (s .start) (s .bids) (p .0) (p .1) (p .2) (p .3)

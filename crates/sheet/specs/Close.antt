@@ -5,7 +5,7 @@ use mathlib.Core.List.{List, [], _∷_}
 use mathlib.Core.Option.{Option, none, some, Option·getD}
 use lib.Dec.{ltb}
 use lib.ListN.{length}
-use Rattle.rule.specs.Refusal.{on, first, badItems, badBidders, anyOver}
+use Rattle.rule.specs.Refusal.{Refusal, on, first, badItems, badBidders, anyOver}
 use Rattle.lines.specs.Lines.{numberLine, closingSheet, closingLength, writtenTo}
 use Rattle.auction.specs.Sealed.{sealedOf}
 use Rattle.sheet.specs.BidSheet.{BidSheet, itemsIn, biddersIn, readSheet}
@@ -25,18 +25,24 @@ biddersOf bytes = Option·getD (biddersIn bytes) 0
 unfoldable pub bidSheetOf : List ℕ → BidSheet
 bidSheetOf bytes = Option·getD (readSheet bytes) (record { items = 0; bidders = 0; start = []; bids = [] })
 
+-- what is asked before the amounts of a sheet are, and then what `rest` asks: 6 for the first four bytes, 1, 2, 6 for the rest
+abbrev pub unreadable : List ℕ → List Refusal → List Refusal
+unreadable bytes rest =
+    on 6 (isNone (itemsIn bytes) || isNone (biddersIn bytes))
+    ∷ on 1 (badItems (itemsOf bytes))
+    ∷ on 2 (badBidders (biddersOf bytes))
+    ∷ on 6 (isNone (readSheet bytes))
+    ∷ rest
+
 -- the number that turns a bid sheet down, with room for so many bytes of a closing sheet: document 01's order for sheets
 unfoldable pub sheetRefusal : List ℕ → (room : ℕ) → ℕ
 sheetRefusal bytes room =
     first
-    (on 6 (isNone (itemsIn bytes) || isNone (biddersIn bytes))
-    ∷ on 1 (badItems (itemsOf bytes))
-    ∷ on 2 (badBidders (biddersOf bytes))
-    ∷ on 6 (isNone (readSheet bytes))
-    ∷ on 3 (ltb room (closingLength (itemsOf bytes) (biddersOf bytes)))
+    (unreadable bytes
+    (on 3 (ltb room (closingLength (itemsOf bytes) (biddersOf bytes)))
     ∷ on 4 (anyOver (bidSheetOf bytes .start))
     ∷ on 5 (anyOver (bidSheetOf bytes .bids))
-    ∷ [])
+    ∷ []))
 
 -- the closing sheet of a bid sheet, by the sealed auction
 unfoldable pub closingOf : BidSheet → List ℕ

@@ -1,5 +1,6 @@
 pub mod BidSheet
 pub mod Writing
 pub mod Close
+pub mod Contents
 pub mod Steps
 pub mod Accepted

@@ -1,16 +1,18 @@
-// Bid sheet in, closing sheet out. The sheet's bytes are not copied: reading goes on at a place of the lent bytes.
+// Bid sheet in, and out either what it says, by value, or its closing sheet. The bytes are not copied: reading goes on at a place of the lent bytes.
 use digits::Number;
 ghost use mathlib.Core.Path.{_≡_};
 ghost use mathlib.Core.Bool.{false};
+ghost use mathlib.Core.List.{[]};
 ghost use mathlib.Core.Option.{some};
 ghost use Prim.Native.Nat.{_+_, _*_, _^_, _≤_, _<_};
-ghost use lib.ListN.{length, take};
+ghost use lib.ListN.{length, take, replicate};
 ghost use Rattle.digits.specs.Reading.{numberIn, asNumber};
 ghost use Rattle.lines.specs.Reading.{endsAt, lineAt};
 ghost use Rattle.lines.specs.Lines.{writtenTo};
-ghost use Rattle.rule.specs.Refusal.{badItems, badBidders};
+ghost use Rattle.rule.specs.Refusal.{first, badItems, badBidders};
 ghost use Rattle.sheet.specs.BidSheet.{itemsIn, biddersIn, bidsAt};
-ghost use Rattle.sheet.specs.Close.{sheetRefusal, closedTo, answerOf};
+ghost use Rattle.sheet.specs.Close.{bidSheetOf, unreadable, sheetRefusal, closedTo, answerOf};
+ghost use Rattle.sheet.specs.Contents.{contents, contentsOf};
 ghost use Rattle.sheet.specs.Steps.{readAs, ClosedRead, Closed};
 
 // How a bid sheet came out: the number that turned it down, or 0, and how many bytes of closing sheet were written.
@@ -103,6 +105,93 @@ fn bids_at(s: &[u8], at: usize, items: usize, bidders: usize, into: &mut [u16]) 
     here == s.len()
 }
 
+// What a bid sheet says, by value: the number that turned it down, or 0; the counts; the starting prices; the bids, bidder after bidder.
+pub struct Contents {
+    pub refusal: u8,
+    pub items: usize,
+    pub bidders: usize,
+    pub start: [u16; 32],
+    pub bids: [u16; 2048],
+}
+
+// Beside a number, zeros only.
+fn unread(why: u8) -> Contents
+    ensures { λ r. ⌜ r ≡ record { refusal = why; items = 0; bidders = 0; start = replicate 32 0; bids = replicate 2048 0 } ⌝ }
+{
+    Contents {
+        refusal: why,
+        items: 0,
+        bidders: 0,
+        start: [0; 32],
+        bids: [0; 2048],
+    }
+}
+
+// Reads the lines of a sheet whose counts are read and in order.
+fn read_counted(bytes: &[u8], items: usize, bidders: usize) -> Contents
+    requires { ⌜ (itemsIn (now bytes) ≡ some items) × (biddersIn (now bytes) ≡ some bidders) × (badItems items ≡ false) × (badBidders bidders ≡ false)
+        × (items ≤ 32) × (bidders ≤ 64) ⌝ }
+    ensures { λ r. ⌜ r ≡ contents (first (unreadable (now (bytes .entry)) [])) (bidSheetOf (now (bytes .entry))) ⌝ }
+{
+    let size = bidders * items;
+    let mut start = [0u16; 32];
+    let mut bids = [0u16; 2048];
+    if !line_at(bytes, 4, &mut start[..items]) {
+        return unread(6);
+    }
+    if !bids_at(bytes, 5 + 4 * items, items, bidders, &mut bids[..size]) {
+        return unread(6);
+    }
+    Contents {
+        refusal: 0,
+        items: items,
+        bidders: bidders,
+        start: start,
+        bids: bids,
+    }
+}
+
+// Reads a bid sheet, whatever its amounts are: 6 for the first four bytes, 1, 2, 6 for the rest.
+fn read(bytes: &[u8]) -> Contents
+    ensures { λ r. ⌜ r ≡ contents (first (unreadable (now (bytes .entry)) [])) (bidSheetOf (now (bytes .entry))) ⌝ }
+{
+    let Number::Is(items) = read_number(bytes, 0, 0, 2) else {
+        return unread(6);
+    };
+    let Number::Is(bidders) = read_number(bytes, 0, 2, 2) else {
+        return unread(6);
+    };
+    let m = items as usize;
+    let n = bidders as usize;
+    if sets::outside(32, m) {
+        return unread(1);
+    }
+    if sets::outside(64, n) {
+        return unread(2);
+    }
+    read_counted(bytes, m, n)
+}
+
+// What a bid sheet says, or the number that turns it down where no closing sheet is asked for: those of reading it, then 4 and 5.
+pub fn bid_sheet(bytes: &[u8]) -> Contents
+    ensures { λ r. ⌜ r ≡ contentsOf (now (bytes .entry)) ⌝ }
+{
+    let s = read(bytes);
+    if 0 < s.refusal {
+        return s;
+    }
+    let items = s.items;
+    let bidders = s.bidders;
+    let start = s.start;
+    let bids = s.bids;
+    let size = bidders * items;
+    let over = bids::refusal(items, bidders, &start[..items], &bids[..size]);
+    if 0 < over {
+        return unread(over);
+    }
+    s
+}
+
 fn refused(why: u8) -> Outcome
     ensures { λ r. ⌜ (r .refusal ≡ why) × (r .length ≡ 0) ⌝ }
 {
@@ -142,42 +231,20 @@ fn close_read(items: usize, bidders: usize, start: &[u16], bids: &[u16], out: &m
     }
 }
 
-// Closes a sheet whose counts are read and in order.
-fn close_counted(bytes: &[u8], items: usize, bidders: usize, out: &mut [u8]) -> Outcome
-    requires { ⌜ (itemsIn (now bytes) ≡ some items) × (biddersIn (now bytes) ≡ some bidders) × (badItems items ≡ false) × (badBidders bidders ≡ false)
-        × (items ≤ 32) × (bidders ≤ 64) ⌝ }
-    ensures { λ r. ⌜ Closed (now (bytes .entry)) (now (out .entry)) r (now (out .exit)) ⌝ }
-{
-    let size = bidders * items;
-    let mut start = [0u16; 32];
-    let mut bids = [0u16; 2048];
-    if !line_at(bytes, 4, &mut start[..items]) {
-        return refused(6);
-    }
-    if !bids_at(bytes, 5 + 4 * items, items, bidders, &mut bids) {
-        return refused(6);
-    }
-    close_read(items, bidders, &start[..items], &bids[..size], out)
-}
-
+// Closes a bid sheet: first it is read, then what was read is closed.
 fn close(bytes: &[u8], out: &mut [u8]) -> Outcome
     ensures { λ r. ⌜ Closed (now (bytes .entry)) (now (out .entry)) r (now (out .exit)) ⌝ }
 {
-    let Number::Is(items) = read_number(bytes, 0, 0, 2) else {
-        return refused(6);
-    };
-    let Number::Is(bidders) = read_number(bytes, 0, 2, 2) else {
-        return refused(6);
-    };
-    let m = items as usize;
-    let n = bidders as usize;
-    if sets::outside(32, m) {
-        return refused(1);
+    let s = read(bytes);
+    if 0 < s.refusal {
+        return refused(s.refusal);
     }
-    if sets::outside(64, n) {
-        return refused(2);
-    }
-    close_counted(bytes, m, n, out)
+    let items = s.items;
+    let bidders = s.bidders;
+    let start = s.start;
+    let bids = s.bids;
+    let size = bidders * items;
+    close_read(items, bidders, &start[..items], &bids[..size], out)
 }
 
 // Closes a bid sheet: writes the closing sheet to the front of `out` and answers 0, or answers the number that turns the sheet down and leaves `out`
