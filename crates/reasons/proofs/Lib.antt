@@ -2,3 +2,4 @@ pub mod Tests
 pub mod Reasoning
 pub mod Lines
 pub mod Along
+pub mod Fitting

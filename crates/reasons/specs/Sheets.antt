@@ -8,7 +8,8 @@ use Rattle.digits.specs.Digits.{hex}
 use Rattle.lines.specs.Lines.{newline, joined, numberLine}
 use Rattle.rule.specs.Sheet.{Sheet}
 use Rattle.rule.specs.Reasons.{Reason, reasonAt, roundCount}
-use Rattle.sheet.specs.Close.{byNumber, sheetRefusal}
+use Rattle.sheet.specs.Close.{byNumber}
+use Rattle.sheet.specs.Contents.{bidSheetRefusal}
 use Rattle.sheet.specs.Accepted.{sheetIn}
 
 -- a round's line: its number in 4 digits, its kind in 2 (01 raised, 02 lowered), the set of items (pans) in 8 and that of the bidders (rakers) in 16
@@ -21,8 +22,11 @@ reasonSheet s = joined (roundCount s) λ k. reasonLine (k + 1) (reasonAt s k)
 
 -- the whole answer to a bid sheet: its sheet of reasons, or the line of the number that turns it down
 unfoldable pub reasonsIn : List ℕ → List ℕ
-reasonsIn bytes = byNumber (sheetRefusal bytes 271) (reasonSheet (sheetIn bytes)) (numberLine (sheetRefusal bytes 271))
+reasonsIn bytes = byNumber (bidSheetRefusal bytes) (reasonSheet (sheetIn bytes)) (numberLine (bidSheetRefusal bytes))
 
--- what is written where so many bytes are lent: all of it, or nothing where that does not fit
+-- bytes that are written where so many are lent: all of them, or none where they do not fit
+unfoldable pub fitting : (room : ℕ) → List ℕ → List ℕ
+fitting room text = cond (ltb room (length text)) [] text
+
 unfoldable pub answerOf : List ℕ → (room : ℕ) → List ℕ
-answerOf bytes room = cond (ltb room (length (reasonsIn bytes))) [] (reasonsIn bytes)
+answerOf bytes room = fitting room (reasonsIn bytes)

@@ -9,10 +9,10 @@ ghost use Rattle.rule.specs.Excess.{positive};
 ghost use Rattle.rule.specs.Round.{close};
 ghost use Rattle.rule.specs.Reasons.{biddersWith, roundCount};
 ghost use Rattle.round.specs.Reports.{reports};
-ghost use Rattle.lines.specs.Lines.{writtenTo};
+ghost use Rattle.lines.specs.Lines.{numberLine, writtenTo};
 ghost use Rattle.bids.specs.Lent.{rowsOf, sheetOf};
 ghost use Rattle.bids.specs.Refusal.{sealedRefusal};
-ghost use Rattle.reasons.specs.Sheets.{reasonLine, reasonSheet, answerOf};
+ghost use Rattle.reasons.specs.Sheets.{reasonLine, reasonSheet, fitting, answerOf};
 ghost use Rattle.reasons.specs.Steps.{countsFor, movingSet, ReasonIs, pricesAfter};
 
 // ---- a round: `falls` says whether it lowers, from the turn on, or raises
@@ -139,4 +139,52 @@ fn put_rounds(
         p = moved(&p, r.items, falls);
         k += 1;
     }
+}
+
+// The sheet of reasons of a sheet that no number turns down, at the front of `out`, and how many bytes that is; nothing where it does not fit. The
+// sealed auction says how many rounds there are.
+fn put_sheet(items: usize, bidders: usize, start: &[u16], bids: &[u16], out: &mut [u8]) -> usize
+    requires { ⌜ sealedRefusal items bidders (now start) (now bids) ≡ 0 ⌝ }
+    ensures { λ r. ⌜ (r ≡ length (fitting (length (now (out .entry))) (reasonSheet (sheetOf items bidders (now (start .entry)) (now (bids .entry))))))
+        × (now (out .exit) ≡ writtenTo (now (out .entry)) (fitting (length (now (out .entry))) (reasonSheet (sheetOf items bidders (now (start .entry)) (now (bids .entry)))))) ⌝ }
+{
+    let c = auction::sealed(items, bidders, start, bids);
+    let raised = c.raised as usize;
+    let rounds = raised + c.lowered as usize;
+    let long = 31 * rounds;
+    if out.len() < long {
+        return 0;
+    }
+    put_rounds(start, bids, items, bidders, raised, rounds, out);
+    long
+}
+
+// The line of a number, at the front of `out`, and how many bytes that is; nothing where it does not fit.
+fn put_number(why: u8, out: &mut [u8]) -> usize
+    ensures { λ r. ⌜ (r ≡ length (fitting (length (now (out .entry))) (numberLine why)))
+        × (now (out .exit) ≡ writtenTo (now (out .entry)) (fitting (length (now (out .entry))) (numberLine why))) ⌝ }
+{
+    if out.len() < 3 {
+        return 0;
+    }
+    lines::write_refusal(out, why);
+    3
+}
+
+// Answers a bid sheet at the front of `out`, by its sheet of reasons or by the line of the number that turns it down, and says how many bytes that
+// is. Where the answer does not fit nothing is written; 253,890 bytes are room for every one.
+pub fn answer(bytes: &[u8], out: &mut [u8]) -> usize
+    ensures { λ r. ⌜ (r ≡ length (answerOf (now (bytes .entry)) (length (now (out .entry)))))
+        × (now (out .exit) ≡ writtenTo (now (out .entry)) (answerOf (now (bytes .entry)) (length (now (out .entry))))) ⌝ }
+{
+    let s = sheet::bid_sheet(bytes);
+    if 0 < s.refusal {
+        return put_number(s.refusal, out);
+    }
+    let items = s.items;
+    let bidders = s.bidders;
+    let start = s.start;
+    let bids = s.bids;
+    let size = bidders * items;
+    put_sheet(items, bidders, &start[..items], &bids[..size], out)
 }
