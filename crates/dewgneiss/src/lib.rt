@@ -1,11 +1,13 @@
-// The sealed auction and the sheets for Rust or C to link: a slice is passed as its address and its length.
+// The sealed auction and the sheets, for Rust or C to link: a slice is passed as its address and its length.
 ghost use mathlib.Core.Path.{_≡_};
 ghost use mathlib.Core.List.{[], _∷_};
 ghost use Prim.Native.Nat.{_≤_};
 ghost use lib.ListN.{length};
 ghost use Rattle.sets.specs.Lists.{places};
 ghost use Rattle.auction.specs.Sealed.{sealedOf};
+ghost use Rattle.lines.specs.Lines.{writtenTo};
 ghost use Rattle.sheet.specs.Close.{sheetRefusal, closedTo, byNumber};
+ghost use Rattle.reasons.specs.Sheets.{answerOf};
 ghost use Rattle.dewgneiss.specs.Lent.{unfit, lentRefusal, withLengths};
 
 // Copies the first prices, as many as there are places.
@@ -128,4 +130,14 @@ pub extern "C" fn dewgneiss_close_sheet(bytes: &[u8], out: &mut [u8]) -> u8
         × (now (out .exit) ≡ closedTo (now (bytes .entry)) (now (out .entry))) ⌝ }
 {
     sheet::close_sheet(bytes, out)
+}
+
+// Answers a bid sheet at the front of `out`, by its sheet of reasons or by the line of the number that turns it down, and says how many bytes that
+// is. Where the answer does not fit nothing is written; 253,890 bytes are room for every one.
+#[no_mangle]
+pub extern "C" fn dewgneiss_reasons(bytes: &[u8], out: &mut [u8]) -> usize
+    ensures { λ r. ⌜ (r ≡ length (answerOf (now (bytes .entry)) (length (now (out .entry)))))
+        × (now (out .exit) ≡ writtenTo (now (out .entry)) (answerOf (now (bytes .entry)) (length (now (out .entry))))) ⌝ }
+{
+    reasons::answer(bytes, out)
 }

@@ -87,6 +87,17 @@ module _ (bytes : List ℕ) (long : 8390 ≤ length bytes) where
   unfolding sheetRefusal itemsOf biddersOf judgedBy
   by-four-bytes room = by-tests _ _ _ (isNone (readSheet bytes)) _ no-sheet
 
+-- cut off behind that, it gets the same number
+pub cut-off : (bytes : List ℕ) (k : ℕ) → 8390 ≤ k → k ≤ length bytes → (why : ℕ) × ((room : ℕ) → (sheetRefusal (take k bytes) room ≡ suc why) × (sheetRefusal bytes room ≡ suc why))
+unfolding itemsIn biddersIn
+cut-off bytes k h l =
+    let same-m : itemsIn (take k bytes) ≡ itemsIn bytes = front-number bytes k 0 2 l (omega arith) in
+    let same-n : biddersIn (take k bytes) ≡ biddersIn bytes = front-number bytes k 2 2 l (omega arith) in
+    let long : 8390 ≤ length (take k bytes) = omega (arith, length-take-le k bytes l) in (
+      judgedBy (itemsIn bytes) (biddersIn bytes),
+      λ room. (by-four-bytes (take k bytes) long room ∙ ap₂ (λ (m n : Option ℕ). suc (judgedBy m n)) same-m same-n, by-four-bytes bytes (omega arith) room),
+    )
+
 -- ---- the answer
 
 numbered : (bytes : List ℕ) (room why : ℕ) → sheetRefusal bytes room ≡ suc why → answerOf bytes room ≡ cond (ltb room 3) [] (numberLine (suc why))
@@ -94,16 +105,10 @@ unfolding answerOf
 numbered bytes room why e = ap (λ (k : ℕ). cond (ltb room 3) [] (byNumber k (closingOf (bidSheetOf bytes)) (numberLine k))) e
 
 pub same-answer : (bytes : List ℕ) (room k : ℕ) → 8390 ≤ k → answerOf (take k bytes) room ≡ answerOf bytes room
-unfolding itemsIn biddersIn
 same-answer bytes room k h = go (decLe (length bytes) k)
   where
     go : Dec (length bytes ≤ k) → answerOf (take k bytes) room ≡ answerOf bytes room
     go (yes l) = ap (λ (b : List ℕ). answerOf b room) (take-all k bytes l)
     go (no l) =
-        let k-in : k ≤ length bytes = omega arith in
-        let m-same : itemsIn (take k bytes) ≡ itemsIn bytes = front-number bytes k 0 2 k-in (omega arith) in
-        let n-same : biddersIn (take k bytes) ≡ biddersIn bytes = front-number bytes k 2 2 k-in (omega arith) in
-        let short : 8390 ≤ length (take k bytes) = omega (arith, length-take-le k bytes k-in) in
-        let why : ℕ = judgedBy (itemsIn bytes) (biddersIn bytes) in
-        numbered (take k bytes) room why (by-four-bytes (take k bytes) short room ∙ ap₂ (λ (m n : Option ℕ). suc (judgedBy m n)) m-same n-same)
-        ∙ sym (numbered bytes room why (by-four-bytes bytes (omega arith) room))
+        let c = cut-off bytes k h (omega arith) in
+        numbered (take k bytes) room (c .0) (c .1 room .0) ∙ sym (numbered bytes room (c .0) (c .1 room .1))
