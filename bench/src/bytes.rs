@@ -88,7 +88,8 @@ fn close(bytes: &[u8], out: &mut [u8; LONGEST]) -> u8 {
     0
 }
 
-fn put(out: &mut [u8], digits: usize, x: u32) {
+/// The number in so many digits.
+pub fn put(out: &mut [u8], digits: usize, x: u32) {
     for (k, byte) in out.iter_mut().enumerate() {
         *byte = b"0123456789abcdef"[(x >> (4 * (digits - 1 - k)) & 15) as usize];
     }

@@ -5,6 +5,7 @@ mod bytes;
 mod live;
 mod matching;
 mod plain;
+mod reasons;
 mod record;
 mod sealed;
 mod search;
@@ -37,7 +38,7 @@ fn main() {
     let matched = matching::table(turns);
     sealed::kinds(turns, &mut measured);
     sealed::growth(turns, &mut measured);
-    let compared = matched + measured.compared + live::table(turns) + bytes::table(turns);
+    let compared = matched + measured.compared + live::table(turns) + bytes::table(turns) + reasons::table(turns);
     if quick {
         println!("{compared} passed, 0 failed");
     } else {

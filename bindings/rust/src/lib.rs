@@ -14,6 +14,10 @@
 //! let sheet = b"020300040004\n00020006\n00030007\n00060007\n";
 //! assert_eq!(dewgneiss::close_sheet(sheet).unwrap(), b"000002000002\n00020006\n000201\n");
 //!
+//! // Why its first round raised item 2: all three bidders want it, and nothing else.
+//! let reasons = dewgneiss::reasons(sheet).unwrap();
+//! assert_eq!((reasons.len(), reasons[0].items, reasons[0].bidders), (4, 0b10, 0b111));
+//!
 //! let refusal = dewgneiss::sealed(2, 3, &[4, 4096], &[2, 6, 3, 7, 6, 7]).unwrap_err();
 //! assert_eq!(refusal.number(), 4);
 //! println!("{refusal}");
@@ -21,11 +25,15 @@
 //!
 //! Words: an item is a pan, a bidder a raker, a price a rent. Items and bidders are numbered from 1.
 
+mod accepted;
 pub mod csv;
+pub mod path;
+mod reasons;
 mod refusal;
 pub mod table;
 mod turn;
 
+pub use reasons::{reason_sheet, reason_sheet_into, reasons, Kind, Reason};
 pub use refusal::Refusal;
 pub use turn::{turn, NoTurn};
 
@@ -39,6 +47,8 @@ pub const TOP: u16 = 4095;
 pub const LONGEST_SHEET: usize = 8_389;
 /// The bytes of the longest closing sheet.
 pub const LONGEST_CLOSING: usize = 271;
+/// The bytes of the longest sheet of reasons: 31 for each of 8,190 rounds.
+pub const LONGEST_REASONS: usize = 253_890;
 
 /// The close of a sealed auction.
 #[derive(Clone, Debug, PartialEq, Eq)]
@@ -71,6 +81,7 @@ mod linked {
             names_len: usize,
         ) -> u8;
         pub fn dewgneiss_close_sheet(bytes: *const u8, bytes_len: usize, out: *mut u8, out_len: usize) -> u8;
+        pub fn dewgneiss_reasons(bytes: *const u8, bytes_len: usize, out: *mut u8, out_len: usize) -> usize;
     }
 }
 

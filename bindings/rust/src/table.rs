@@ -1,14 +1,17 @@
 //! A closing for people: tables in decimal.
 
+use crate::accepted::{numbers, Accepted};
 use crate::{close_sheet, turn, Closing};
 use std::error::Error;
 use std::fmt::Write;
 
-/// The numbers in a line of digits, `width` to a number.
-fn numbers(line: &str, width: usize) -> Vec<u16> {
-    let digits: Vec<char> = line.chars().collect();
-    let value = |d: &[char]| d.iter().fold(0, |v, c| 16 * v + c.to_digit(16).unwrap_or(0));
-    digits.chunks(width).map(|d| value(d) as u16).collect()
+/// The first line of a table: the counts, and the rounds.
+pub(crate) fn counted(items: usize, bidders: usize, raised: usize, lowered: usize) -> Result<String, std::fmt::Error> {
+    let mut out = String::new();
+    let count = |n: usize, word: &str| format!("{n} {word}{}", if n == 1 { "" } else { "s" });
+    let (items, bidders) = (count(items, "pan"), count(bidders, "raker"));
+    writeln!(out, "{items}, {bidders}; {} raised, {} lowered.\n", count(raised, "round"), count(lowered, "round"))?;
+    Ok(out)
 }
 
 /// What a closing sheet says.
@@ -26,27 +29,15 @@ fn read_closing(sheet: &str) -> Closing {
 /// The tables for a bid sheet; an error where it is turned down.
 pub fn show(bytes: &[u8]) -> Result<String, Box<dyn Error>> {
     let closing = read_closing(&String::from_utf8(close_sheet(bytes)?)?);
-    // The sheet was accepted, so its first line has the counts and the starting prices, and the others the bids.
-    let text = std::str::from_utf8(bytes)?;
-    let lines: Vec<&str> = text.lines().collect();
-    let start = numbers(&lines[0][4..], 4);
-    let bids: Vec<u16> = lines[1..].iter().flat_map(|line| numbers(line, 4)).collect();
-    let turn = turn(&start, &bids, &closing)?;
-    Ok(written(&start, &bids, &turn, &closing)?)
+    let sheet = Accepted::of(std::str::from_utf8(bytes)?);
+    let turn = turn(&sheet.start, &sheet.bids, &closing)?;
+    Ok(written(&sheet, &turn, &closing)?)
 }
 
-fn written(start: &[u16], bids: &[u16], turn: &[u16], closing: &Closing) -> Result<String, std::fmt::Error> {
+fn written(sheet: &Accepted, turn: &[u16], closing: &Closing) -> Result<String, std::fmt::Error> {
+    let Accepted { start, bids } = sheet;
     let items = start.len();
-    let mut out = String::new();
-    let count = |n: usize, word: &str| format!("{n} {word}{}", if n == 1 { "" } else { "s" });
-    writeln!(
-        out,
-        "{}, {}; {} raised, {} lowered.\n",
-        count(items, "pan"),
-        count(closing.names.len(), "raker"),
-        count(closing.raised as usize, "round"),
-        count(closing.lowered as usize, "round"),
-    )?;
+    let mut out = counted(items, closing.names.len(), closing.raised as usize, closing.lowered as usize)?;
     writeln!(out, "  pan  start   turn  close  let to")?;
     for i in 0..items {
         let who = closing.names.iter().position(|&n| n as usize == i + 1);

@@ -1,6 +1,7 @@
-//! The tools for people: `show` and `make`.
+//! The tools for people: `show`, `path` and `make`.
 
 use dewgneiss::csv::bid_sheet;
+use dewgneiss::path;
 use dewgneiss::table::show;
 use std::fs::File;
 use std::path::Path;
@@ -16,6 +17,58 @@ fn example_6_is_shown() {
 }
 
 #[test]
+fn the_rounds_are_shown() {
+    for name in ["example-6", "k9"] {
+        let shown = path::show(&example(&format!("{name}.sheet"))).unwrap();
+        assert_eq!(shown.into_bytes(), example(&format!("{name}.path")), "{name}");
+    }
+}
+
+/// Two equal rounds have a row each, three are drawn together; a set has its runs of pans named from first to last.
+#[test]
+fn long_runs_are_drawn_together() {
+    let rows = |sheet: &str| path::show(sheet.as_bytes()).unwrap().lines().skip(5).map(String::from).collect::<Vec<_>>();
+    assert_eq!(
+        rows("01020000\n0002\n0002\n"),
+        ["     1  pan 1 up, 0 to 1          2 for 1      1", "     2  pan 1 up, 1 to 2          2 for 1      2"]
+    );
+    assert_eq!(rows("01020000\n0003\n0003\n"), ["1 to 3  pan 1 up, 0 to 3          2 for 1      3"]);
+    assert_eq!(rows("01010000\n0000\n"), [""; 0]);
+    let three = rows("04010003000300000003\n0000000000090000\n");
+    assert_eq!(three, ["1 to 3  pans 1-2, 4 down by 3          0 for 3      0      0      0      0"]);
+}
+
+/// Every example's rounds lead from its starting rents to its closing rents.
+#[test]
+fn the_rounds_lead_to_the_close() {
+    for name in ["example-6", "k4", "k6", "k7", "k9"] {
+        let shown = path::show(&example(&format!("{name}.sheet"))).unwrap();
+        let closing = String::from_utf8(example(&format!("{name}.closing"))).unwrap();
+        let rents: Vec<u64> = closing.lines().nth(1).unwrap().as_bytes().chunks(4).map(hex).collect();
+        let last: Vec<u64> =
+            shown.lines().last().unwrap().split_whitespace().rev().take(rents.len()).map(|x| x.parse().unwrap()).collect();
+        assert!(last.iter().rev().eq(&rents), "{name}: {shown}");
+    }
+}
+
+fn hex(digits: &[u8]) -> u64 {
+    u64::from_str_radix(std::str::from_utf8(digits).unwrap(), 16).unwrap()
+}
+
+#[test]
+fn the_reasons_of_the_examples() {
+    for name in ["example-6", "k4", "k9"] {
+        let lines = dewgneiss::reason_sheet(&example(&format!("{name}.sheet")));
+        assert_eq!(lines, Ok(example(&format!("{name}.reasons"))), "{name}");
+    }
+    for name in ["k5", "k8"] {
+        assert_eq!(dewgneiss::reasons(&example(&format!("{name}.sheet"))), Ok(Vec::new()), "{name}");
+    }
+    let k6 = dewgneiss::reasons(&example("k6.sheet")).unwrap();
+    assert!(k6.len() == 4095 && k6.iter().all(|r| (r.kind, r.items, r.bidders) == (dewgneiss::Kind::Raised, 1, 3)));
+}
+
+#[test]
 fn every_example_closes_as_it_says() {
     for name in ["example-6", "k4", "k5", "k6", "k7", "k8", "k9"] {
         let closing = dewgneiss::close_sheet(&example(&format!("{name}.sheet")));
@@ -28,8 +81,11 @@ fn every_example_closes_as_it_says() {
 fn a_bad_sheet_is_not_shown() {
     let said = show(b"0101").unwrap_err().to_string();
     assert!(said.starts_with("turned down with 06: these bytes are not a bid sheet"), "{said}");
-    let said = show(b"01010000\n1000\n").unwrap_err().to_string();
-    assert!(said.starts_with("turned down with 05: a bid is above 4,095"), "{said}");
+    for shown in [show(b"01010000\n1000\n"), path::show(b"01010000\n1000\n")] {
+        let said = shown.unwrap_err().to_string();
+        assert!(said.starts_with("turned down with 05: a bid is above 4,095"), "{said}");
+    }
+    assert_eq!(dewgneiss::reasons(b"2101").unwrap_err().number(), 1);
 }
 
 #[test]
@@ -101,6 +157,7 @@ fn tool(verb: &str, input: &str) -> Output {
 fn an_endless_input() {
     for (verb, input, said) in [
         ("show", "/dev/zero", "turned down with 06: these bytes are not a bid sheet"),
+        ("path", "/dev/zero", "turned down with 06: these bytes are not a bid sheet"),
         ("make", "/dev/zero", "-: line 1, column 1: this is more than a table of 32 pans and 64 rakers can be"),
         ("make", "/dev/null", "-: line 1, column 1: the table is empty"),
     ] {

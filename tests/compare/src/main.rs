@@ -1,4 +1,4 @@
-//! Holds the proved code to the second program: through the wrapper, through `closing_sheet` and through `live_console`.
+//! Holds the proved code to the second program: through the wrapper, and through the programs `closing_sheet`, `reason_sheet` and `live_console`.
 //!
 //! `compare [SHEETS] [LISTS] [SEED]`. Its last line is 'N passed, M failed': M comparisons differ, and it fails if M is not 0. The
 //! programs are looked for in `target/bin` of the repository, where `rt` leaves them.
@@ -7,6 +7,7 @@ mod fixed;
 mod lent;
 mod lists;
 mod program;
+mod reasons;
 mod sheets;
 
 /// What was compared, and what differed.
@@ -66,7 +67,8 @@ fn main() {
     stage(&mut total, "sheets within the limits, through the wrapper", || sheets::accepted(count * 2 / 3, seed));
     stage(&mut total, "damaged sheets, through the wrapper", || sheets::damaged(count / 3, seed));
     stage(&mut total, "lent memory, through the wrapper", || lent::all(count / 12, seed));
-    stage(&mut total, "the program closing_sheet", || program::sheets(count / 60, seed));
+    stage(&mut total, "sheets of reasons, through the wrapper", || reasons::all(count / 5, seed));
+    stage(&mut total, "the programs closing_sheet and reason_sheet", || program::sheets(count / 60, seed));
     stage(&mut total, "live lists, through the program live_console", || lists::all(lists, seed));
     println!("{} passed, {} failed", total.passed, total.failed);
     std::process::exit(i32::from(total.failed > 0));

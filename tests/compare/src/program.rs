@@ -1,11 +1,11 @@
-//! The program `closing_sheet`, a process for each sheet: a sample of good and damaged ones, and the inputs at the edge.
+//! The programs `closing_sheet` and `reason_sheet`, a process for each sheet: a sample of good and damaged ones, and the inputs at the edge.
 
 use crate::sheets::text;
 use crate::Tally;
 use model::cases;
 use model::generate::{self, Damage, Shape, DAMAGES, SHAPES};
 use model::random::Random;
-use model::sheet;
+use model::{reasons, sheet, TOP};
 use std::io::Write;
 use std::path::PathBuf;
 use std::process::{Command, Stdio};
@@ -26,27 +26,33 @@ pub fn run(name: &str, input: &[u8]) -> std::io::Result<Vec<u8>> {
     })
 }
 
-/// What the program is to write: the closing sheet, or the number in two digits.
-fn expected(bytes: &[u8]) -> Vec<u8> {
+/// The programs, and what each is to write: its sheet, or the number in two digits.
+const PROGRAMS: [(&str, fn(&[u8]) -> Vec<u8>); 2] = [("closing_sheet", closing), ("reason_sheet", reasons::answer)];
+
+fn closing(bytes: &[u8]) -> Vec<u8> {
     sheet::close(bytes, 271).unwrap_or_else(|number| format!("{number:02}\n").into_bytes())
 }
 
 fn compare(what: &str, bytes: &[u8], tally: &mut Tally) {
-    let expected = expected(bytes);
-    let written = run("closing_sheet", bytes);
-    let same = written.as_ref().is_ok_and(|w| *w == expected);
-    tally.expect(same, || {
-        format!("closing_sheet, {what}: {:?}\nexpected {:?}, written {written:?}", text(bytes), text(&expected))
-    });
+    for (name, answer) in PROGRAMS {
+        let expected = answer(bytes);
+        let written = run(name, bytes);
+        let same = written.as_ref().is_ok_and(|w| *w == expected);
+        tally.expect(same, || format!("{name}, {what}: {:?}\nexpected {:?}, written {written:?}", text(bytes), text(&expected)));
+    }
 }
 
 /// The inputs at the edge of what a sheet can be.
 fn edges(tally: &mut Tally) {
     let full = model::Sheet { items: 32, bidders: 64, start: vec![0; 32], bids: vec![1; 32 * 64] };
     let full = sheet::write(&full);
+    // 8,190 rounds: everybody wants the first half, from 0, and nobody the second half, from 4,095.
+    let line: Vec<u16> = (0..32).map(|i| if i < 16 { TOP } else { 0 }).collect();
+    let longest = model::Sheet { items: 32, bidders: 64, start: line.iter().map(|&x| TOP - x).collect(), bids: line.repeat(64) };
     for (what, bytes) in [
         ("nothing", Vec::new()),
         ("the longest sheet", full.clone()),
+        ("the most rounds", sheet::write(&longest)),
         ("one byte past the longest sheet", [&full[..], b"\n"].concat()),
         ("the longest sheet less a byte", full[..full.len() - 1].to_vec()),
         ("a sheet as long as a buffer", vec![b'0'; 65_536]),
@@ -61,16 +67,18 @@ fn edges(tally: &mut Tally) {
 
 /// A standard input that is empty, closed or cannot be read gives 06.
 fn without_input(tally: &mut Tally) {
-    let program = path("closing_sheet");
-    let closed = |mut shell: Command| shell.args(["-c", "exec \"$0\" <&-"]).arg(&program).output();
-    let folder = std::fs::File::open(env!("CARGO_MANIFEST_DIR")).expect("this folder");
-    for (what, done) in [
-        ("an empty standard input", Command::new(&program).stdin(Stdio::null()).output()),
-        ("a closed standard input", closed(Command::new("sh"))),
-        ("a folder as standard input", Command::new(&program).stdin(folder).output()),
-    ] {
-        let written = done.map(|done| done.stdout);
-        tally.expect(written.as_ref().is_ok_and(|w| w == b"06\n"), || format!("closing_sheet, {what}: {written:?}"));
+    for (name, _) in PROGRAMS {
+        let program = path(name);
+        let closed = |mut shell: Command| shell.args(["-c", "exec \"$0\" <&-"]).arg(&program).output();
+        let folder = std::fs::File::open(env!("CARGO_MANIFEST_DIR")).expect("this folder");
+        for (what, done) in [
+            ("an empty standard input", Command::new(&program).stdin(Stdio::null()).output()),
+            ("a closed standard input", closed(Command::new("sh"))),
+            ("a folder as standard input", Command::new(&program).stdin(folder).output()),
+        ] {
+            let written = done.map(|done| done.stdout);
+            tally.expect(written.as_ref().is_ok_and(|w| w == b"06\n"), || format!("{name}, {what}: {written:?}"));
+        }
     }
 }
 

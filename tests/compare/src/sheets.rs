@@ -65,13 +65,9 @@ pub fn accepted(count: u64, seed: u64) -> Tally {
     on_all_processors(count, seed, one_accepted)
 }
 
-/// The lent bytes after the call: the closing sheet at the front, or as they came.
-fn after(lent: &[u8], answer: &Result<Vec<u8>, u8>) -> Vec<u8> {
-    let mut out = lent.to_vec();
-    if let Ok(bytes) = answer {
-        out[..bytes.len()].copy_from_slice(bytes);
-    }
-    out
+/// The lent bytes after a call that writes these to their front.
+pub fn after(lent: &[u8], written: &[u8]) -> Vec<u8> {
+    [written, &lent[written.len()..]].concat()
 }
 
 fn one_damaged(k: u64, r: &mut Random, tally: &mut Tally) {
@@ -85,7 +81,7 @@ fn one_damaged(k: u64, r: &mut Random, tally: &mut Tally) {
     let expected = sheet::close(&bytes, room);
     let mut out = lent.clone();
     let given = number(&close_sheet_into(&bytes, &mut out));
-    let same = given == expected.as_ref().err().copied().unwrap_or(0) && out == after(&lent, &expected);
+    let same = given == expected.as_ref().err().copied().unwrap_or(0) && out == after(&lent, expected.as_deref().unwrap_or(&[]));
     tally.expect(same, || {
         format!("damaged sheet {k} ({damage:?}), room {room}: {:?}\nexpected {expected:?}, given {given}, {out:?}", text(&bytes))
     });

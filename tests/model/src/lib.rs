@@ -1,9 +1,10 @@
-//! The second program: document 01 once more, in plain Rust, by other methods than the proved code.
+//! The second program: document 01, and what has landed of document 02, once more, in plain Rust, by other methods than the proved code.
 //!
 //! - [`literal`] follows the definitions to the letter: every part of every set, every assignment. For small sheets.
 //! - [`flows`] takes the sets from a maximum matching and its alternating closure, and the first assignment from flows
 //!   with lower bounds. For sheets of any size.
 //! - [`totals`] plays no round at all: it takes turn and close from best totals, as least equilibrium prices.
+//! - [`reasons`] prints the sheet of reasons of document 02.
 //! - [`sheet`] reads bid sheets and writes closing sheets; [`live`] is the live auction, [`machine`] the plain machine
 //!   that a live list is held to, [`console`] the lines of the console program.
 //! - [`cases`] is document 01's table; [`random`] and [`generate`] make what else the comparison runs on, from a seed.
@@ -18,6 +19,7 @@ pub mod literal;
 pub mod live;
 pub mod machine;
 pub mod random;
+pub mod reasons;
 pub mod sheet;
 pub mod totals;
 

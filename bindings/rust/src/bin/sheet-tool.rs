@@ -1,6 +1,6 @@
-//! What `./run show` and `./run make` call: `sheet-tool show FILE`, `sheet-tool make FILE`; `-` is standard input.
+//! What `./run show`, `./run path` and `./run make` call: `sheet-tool show FILE`, and so on; `-` is standard input.
 
-use dewgneiss::{csv, table, LONGEST_SHEET};
+use dewgneiss::{csv, path, table, LONGEST_SHEET};
 use std::error::Error;
 use std::ffi::{OsStr, OsString};
 use std::fmt::Display;
@@ -26,8 +26,9 @@ fn start(file: &OsStr, longest: usize) -> Result<Vec<u8>, Box<dyn Error>> {
 fn run(words: &[OsString]) -> Result<String, Box<dyn Error>> {
     match words {
         [verb, file] if verb == "show" => table::show(&start(file, LONGEST_SHEET)?),
+        [verb, file] if verb == "path" => path::show(&start(file, LONGEST_SHEET)?),
         [verb, file] if verb == "make" => csv::bid_sheet(&start(file, csv::LONGEST_TABLE)?).map_err(of(file)),
-        _ => Err("usage: sheet-tool show SHEET | sheet-tool make FILE.csv".into()),
+        _ => Err("usage: sheet-tool show SHEET | sheet-tool path SHEET | sheet-tool make FILE.csv".into()),
     }
 }
 

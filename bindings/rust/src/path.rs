@@ -1,0 +1,118 @@
+//! The rounds of a sheet for people: a row a round in decimal, long runs of equal rounds drawn together.
+
+use crate::accepted::Accepted;
+use crate::table::counted;
+use crate::{reasons, Kind, Reason};
+use std::error::Error;
+use std::fmt::{self, Write};
+
+/// So many equal rounds in a row, or more, are drawn together.
+const LONG: usize = 3;
+
+/// Rounds that are shown in one row: from one to another, what each of them did, and the prices before the first and after the last.
+struct Row {
+    first: usize,
+    last: usize,
+    reason: Reason,
+    before: Vec<u16>,
+    after: Vec<u16>,
+}
+
+/// The prices after a round.
+fn moved(prices: &[u16], reason: &Reason) -> Vec<u16> {
+    let on = |i: usize| u16::from(reason.items >> i & 1 == 1);
+    let next = |(i, &p): (usize, &u16)| match reason.kind {
+        Kind::Raised => p + on(i),
+        Kind::Lowered => p - on(i),
+    };
+    prices.iter().enumerate().map(next).collect()
+}
+
+/// Whether two rounds look the same: one way, the same items, as many bidders.
+fn equal(a: &Reason, b: &Reason) -> bool {
+    (a.kind, a.items, a.bidders.count_ones()) == (b.kind, b.items, b.bidders.count_ones())
+}
+
+/// The rows of a path, from its starting prices.
+fn rows(start: &[u16], reasons: &[Reason]) -> Vec<Row> {
+    let mut rows = Vec::new();
+    let mut prices = start.to_vec();
+    let mut first = 1;
+    for run in reasons.chunk_by(equal) {
+        // A run that is not long has a row for each of its rounds.
+        let together = if run.len() < LONG { 1 } else { run.len() };
+        for part in run.chunks(together) {
+            let after = part.iter().fold(prices.clone(), |prices, reason| moved(&prices, reason));
+            let last = first + part.len() - 1;
+            rows.push(Row { first, last, reason: part[0], before: prices, after: after.clone() });
+            (prices, first) = (after, last + 1);
+        }
+    }
+    rows
+}
+
+/// Items by number, runs of them as `1-4`.
+fn named(items: u32) -> String {
+    let members: Vec<u32> = (1..=32).filter(|i| items >> (i - 1) & 1 == 1).collect();
+    let runs = members.chunk_by(|a, b| a + 1 == *b).map(|run| match run {
+        [one] => one.to_string(),
+        [first, .., last] => format!("{first}-{last}"),
+        [] => String::new(),
+    });
+    runs.collect::<Vec<_>>().join(", ")
+}
+
+impl Row {
+    fn rounds(&self) -> String {
+        if self.first == self.last {
+            return self.first.to_string();
+        }
+        format!("{} to {}", self.first, self.last)
+    }
+
+    /// The items and which way they went: from where to where for one, by how much for several.
+    fn moves(&self) -> String {
+        let way = match self.reason.kind {
+            Kind::Raised => "up",
+            Kind::Lowered => "down",
+        };
+        let items = named(self.reason.items);
+        if self.reason.items.count_ones() == 1 {
+            let i = self.reason.items.trailing_zeros() as usize;
+            return format!("pan {items} {way}, {} to {}", self.before[i], self.after[i]);
+        }
+        format!("pans {items} {way} by {}", self.last + 1 - self.first)
+    }
+
+    fn bidders(&self) -> String {
+        format!("{} for {}", self.reason.bidders.count_ones(), self.reason.items.count_ones())
+    }
+}
+
+/// The table for a bid sheet; an error where it is turned down.
+pub fn show(bytes: &[u8]) -> Result<String, Box<dyn Error>> {
+    let reasons = reasons(bytes)?;
+    Ok(written(&Accepted::of(std::str::from_utf8(bytes)?), &reasons)?)
+}
+
+fn written(sheet: &Accepted, reasons: &[Reason]) -> Result<String, fmt::Error> {
+    let raised = reasons.iter().filter(|r| r.kind == Kind::Raised).count();
+    let mut out = counted(sheet.start.len(), sheet.bidders(), raised, reasons.len() - raised)?;
+    let rows = rows(&sheet.start, reasons);
+    let rounds: Vec<[String; 3]> = rows.iter().map(|r| [r.rounds(), r.moves(), r.bidders()]).collect();
+    let heads = ["rounds", "what moved", "rakers for pans"];
+    let wide: [usize; 3] = std::array::from_fn(|k| rounds.iter().map(|r| r[k].len()).max().unwrap_or(0).max(heads[k].len()));
+    let mut line = |cells: [&str; 3], prices: &[String]| {
+        write!(out, "{:>3$}  {:<4$}  {:>5$}", cells[0], cells[1], cells[2], wide[0], wide[1], wide[2])?;
+        prices.iter().try_for_each(|p| write!(out, "{p:>7}"))?;
+        writeln!(out)
+    };
+    let prices = |prices: &[u16]| prices.iter().map(u16::to_string).collect::<Vec<_>>();
+    line(["", "", ""], &["  rents after it".to_string()])?;
+    line(heads, &(1..=sheet.start.len()).map(|i| format!("pan {i}")).collect::<Vec<_>>())?;
+    line(["start", "", ""], &prices(&sheet.start))?;
+    for (cells, row) in rounds.iter().zip(&rows) {
+        line([&cells[0], &cells[1], &cells[2]], &prices(&row.after))?;
+    }
+    Ok(out)
+}

@@ -1,0 +1,56 @@
+//! The sheet of reasons: for every round its kind, the items that moved, and the bidders for whose demands they did.
+
+use crate::{linked, refusal, Refusal, LONGEST_REASONS};
+
+/// What a round did to prices.
+#[derive(Clone, Copy, Debug, PartialEq, Eq)]
+pub enum Kind {
+    Raised,
+    Lowered,
+}
+
+/// Why a round moved its items.
+#[derive(Clone, Copy, Debug, PartialEq, Eq)]
+pub struct Reason {
+    pub kind: Kind,
+    /// The items that moved: bit i − 1 for item i.
+    pub items: u32,
+    /// For a rise the bidders who want nothing but these items, for a fall those who want some of them: bit k − 1 for bidder k.
+    pub bidders: u64,
+}
+
+/// The bytes of a round's line.
+const LINE: usize = 31;
+
+/// The reasons of a bid sheet, round by round.
+///
+/// Refused with 6 for the first four bytes, 1, 2, 6 for the rest, 4 or 5, in this order.
+pub fn reasons(bytes: &[u8]) -> Result<Vec<Reason>, Refusal> {
+    Ok(reason_sheet(bytes)?.chunks_exact(LINE).map(read_line).collect())
+}
+
+/// The same as bytes: a line of 31 for each round.
+pub fn reason_sheet(bytes: &[u8]) -> Result<Vec<u8>, Refusal> {
+    let mut out = vec![0; LONGEST_REASONS];
+    let long = reason_sheet_into(bytes, &mut out);
+    out.truncate(long);
+    // Three bytes are no lines of rounds: they are the line of a number.
+    if let [tens, ones, _] = out[..] {
+        refusal::of(10 * (tens - b'0') + (ones - b'0'))?;
+    }
+    Ok(out)
+}
+
+/// The same into lent bytes, at their front, or the line of the number that turns the sheet down: how many bytes that is. Where it does not fit
+/// nothing is written, and the answer is 0; [`LONGEST_REASONS`] bytes are room for every one. Bytes past it stay as they were.
+pub fn reason_sheet_into(bytes: &[u8], out: &mut [u8]) -> usize {
+    // SAFETY: each address and length is that of one slice; `out` is lent to this call alone.
+    unsafe { linked::dewgneiss_reasons(bytes.as_ptr(), bytes.len(), out.as_mut_ptr(), out.len()) }
+}
+
+/// What a line says. It comes from the proved code, so its digits are digits.
+fn read_line(line: &[u8]) -> Reason {
+    let number = |digits: &[u8]| digits.iter().fold(0u64, |x, &d| 16 * x + u64::from((d as char).to_digit(16).unwrap_or(0)));
+    let kind = if number(&line[4..6]) == 1 { Kind::Raised } else { Kind::Lowered };
+    Reason { kind, items: number(&line[6..14]) as u32, bidders: number(&line[14..30]) }
+}
