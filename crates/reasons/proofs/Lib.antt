@@ -3,3 +3,4 @@ pub mod Reasoning
 pub mod Lines
 pub mod Along
 pub mod Fitting
+pub mod Answers
