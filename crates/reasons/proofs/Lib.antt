@@ -4,3 +4,4 @@ pub mod Lines
 pub mod Along
 pub mod Fitting
 pub mod Answers
+pub mod ReadBack
