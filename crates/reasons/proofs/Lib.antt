@@ -1,3 +1,4 @@
+pub mod Applied
 pub mod Tests
 pub mod Reasoning
 pub mod Lines
