@@ -1,11 +1,11 @@
 -- A line: what stands in a sheet is what reading it gives, and the other way round. Assumes nothing.
-use Prim.Native.Nat.{ℕ, _+_, _*_, _^_, _≤_, _<_}
+use Prim.Native.Nat.{ℕ, zero, suc, _+_, _*_, _^_, _≤_, _<_}
 use mathlib.Core.Path.{_≡_, refl, sym, ap, _∙_, subst}
 use mathlib.Core.Bool.{Bool, true, false, cond}
 use mathlib.Core.List.{List, [], _∷_, _++_}
 use mathlib.Core.Option.{none, some, Option·some-injective, Option·none-ne-some}
 use native.Mathlib.Omega.{arith}
-use native.Mathlib.Nat.{add-zero}
+use native.Mathlib.Nat.{not-suc-le-zero, add-zero}
 use native.Mathlib.Decide.{decLt}
 use lib.ListN.{length, getD, List·getD-eq-default}
 use borrow.Author.Tests.{eq-eqb, eqb-true}
@@ -41,9 +41,22 @@ ended bytes at e = go (decLt at (length bytes))
         let none-there : getD bytes at 0 ≡ 0 = List·getD-eq-default bytes 0 (omega arith) in
         absurd (let f : ⊥ = omega (arith, ten, none-there) in f)
 
-ends : (bytes : List ℕ) (at : ℕ) → Stands bytes at newline → endsAt bytes at ≡ true
+pub ends : (bytes : List ℕ) (at : ℕ) → Stands bytes at newline → endsAt bytes at ≡ true
 unfolding endsAt newline
 ends bytes at s = eq-eqb (getD bytes at 0) 10 (sym (ap (λ (j : ℕ). getD bytes j 0) (add-zero at)) ∙ s .same 0 (omega arith))
+
+-- of joined lists of c bytes each, every one stands c bytes behind the one before
+pub each-stands : (bytes : List ℕ) (c n : ℕ) (f : ℕ → List ℕ) → ((k : ℕ) → length (f k) ≡ c) → (at : ℕ) → Stands bytes at (joined n f)
+    → (k : ℕ) → k < n → Stands bytes (at + c * k) (f k)
+unfolding joined
+each-stands bytes c zero f h at s k l = absurd (not-suc-le-zero l)
+each-stands bytes c (suc n) f h at s zero l =
+    let e : at ≡ at + c * 0 = omega arith in
+    subst (λ (j : ℕ). Stands bytes j (f 0)) e (front bytes at (f 0) (joined n (λ k. f (suc k))) s)
+each-stands bytes c (suc n) f h at s (suc k) l =
+    let e : at + length (f 0) + c * k ≡ at + c * suc k = omega (arith, h 0) in
+    subst (λ (j : ℕ). Stands bytes j (f (suc k))) e
+    (each-stands bytes c n (λ j. f (suc j)) (λ j. h (suc j)) (at + length (f 0)) (back bytes at (f 0) (joined n (λ j. f (suc j))) s) k (omega arith))
 
 module _ (bytes : List ℕ) (k c at : ℕ) where
   pub line-at : (g : ℕ → ℕ) → ((i : ℕ) → i < k → g i < 16 ^ c) → Stands bytes at (joined k (λ i. hex c (g i)) ++ newline)

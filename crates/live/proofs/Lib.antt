@@ -9,3 +9,4 @@ pub mod Ending
 pub mod Bounds
 pub mod Sets
 pub mod Reading
+pub mod Reasons

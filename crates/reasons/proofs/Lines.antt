@@ -18,19 +18,23 @@ use Rattle.reasons.specs.Sheets.{reasonLine, reasonSheet}
 
 -- ---- one line
 
+-- where its second, third, fourth and last part end
+pub two-long : (n k : ℕ) → length (hex 4 n ++ hex 2 k) ≡ 6
+two-long n k = omega (arith, length-append (hex 4 n) (hex 2 k), hex-length 4 n, hex-length 2 k)
+
+pub three-long : (n k s : ℕ) → length (hex 4 n ++ hex 2 k ++ hex 8 s) ≡ 14
+three-long n k s = omega (arith, length-append (hex 4 n ++ hex 2 k) (hex 8 s), two-long n k, hex-length 8 s)
+
+pub four-long : (n k s w : ℕ) → length (hex 4 n ++ hex 2 k ++ hex 8 s ++ hex 16 w) ≡ 30
+four-long n k s w = omega (arith, length-append (hex 4 n ++ hex 2 k ++ hex 8 s) (hex 16 w), three-long n k s, hex-length 16 w)
+
 pub line-long : (n : ℕ) (r : Reason) → length (reasonLine n r) ≡ 31
 unfolding reasonLine
 line-long n r =
     omega (
       arith,
       length-append (hex 4 n ++ hex 2 (r .kind) ++ hex 8 (r .items) ++ hex 16 (r .bidders)) newline,
-      length-append (hex 4 n ++ hex 2 (r .kind) ++ hex 8 (r .items)) (hex 16 (r .bidders)),
-      length-append (hex 4 n ++ hex 2 (r .kind)) (hex 8 (r .items)),
-      length-append (hex 4 n) (hex 2 (r .kind)),
-      hex-length 4 n,
-      hex-length 2 (r .kind),
-      hex-length 8 (r .items),
-      hex-length 16 (r .bidders),
+      four-long n (r .kind) (r .items) (r .bidders),
       newline-length,
     )
 
@@ -56,14 +60,8 @@ line-put out a b c d e at n k s w ea eb ec ed ee =
     low : List ℕ
     low = hex 8 (w % 4294967296)
 
-    l₂ : length (hex 4 n ++ hex 2 k) ≡ 6
-    l₂ = omega (arith, length-append (hex 4 n) (hex 2 k), hex-length 4 n, hex-length 2 k)
-
-    l₃ : length front ≡ 14
-    l₃ = omega (arith, length-append (hex 4 n ++ hex 2 k) (hex 8 s), l₂, hex-length 8 s)
-
     l₄ : length (front ++ high) ≡ 22
-    l₄ = omega (arith, length-append front high, l₃, hex-length 8 (w / 4294967296))
+    l₄ = omega (arith, length-append front high, three-long n k s, hex-length 8 (w / 4294967296))
 
     l₅ : length (front ++ high ++ low) ≡ 30
     l₅ = omega (arith, length-append (front ++ high) low, l₄, hex-length 8 (w % 4294967296))
@@ -72,10 +70,10 @@ line-put out a b c d e at n k s w ea eb ec ed ee =
     b-is = then out a b (hex 4 n) (hex 2 k) at (at + 4) ea (omega (arith, hex-length 4 n)) eb
 
     c-is : c ≡ sets out at front
-    c-is = then out b c (hex 4 n ++ hex 2 k) (hex 8 s) at (at + 6) b-is (omega (arith, l₂)) ec
+    c-is = then out b c (hex 4 n ++ hex 2 k) (hex 8 s) at (at + 6) b-is (omega (arith, two-long n k)) ec
 
     d-is : d ≡ sets out at (front ++ high)
-    d-is = then out c d front high at (at + 14) c-is (omega (arith, l₃)) ed
+    d-is = then out c d front high at (at + 14) c-is (omega (arith, three-long n k s)) ed
 
     e-is : e ≡ sets out at (front ++ high ++ low)
     e-is = then out d e (front ++ high) low at (at + 22) d-is (omega (arith, l₄)) ee

@@ -1,11 +1,15 @@
 -- The sheet of reasons: document 02, #101. Assumes nothing: these are definitions.
 use Prim.Native.Nat.{ℕ, _+_}
-use mathlib.Core.Bool.{cond}
+use mathlib.Core.Bool.{true, cond}
 use mathlib.Core.List.{List, [], _++_}
+use mathlib.Core.Option.{some}
+use mathlib.Core.Path.{_≡_}
 use lib.Dec.{ltb}
 use lib.ListN.{length}
 use Rattle.digits.specs.Digits.{hex}
+use Rattle.digits.specs.Reading.{numberAt}
 use Rattle.lines.specs.Lines.{newline, joined, numberLine}
+use Rattle.lines.specs.Reading.{endsAt}
 use Rattle.rule.specs.Sheet.{Sheet}
 use Rattle.rule.specs.Reasons.{Reason, reasonAt, roundCount}
 use Rattle.sheet.specs.Close.{byNumber}
@@ -30,3 +34,11 @@ fitting room text = cond (ltb room (length text)) [] text
 
 unfoldable pub answerOf : List ℕ → (room : ℕ) → List ℕ
 answerOf bytes room = fitting room (reasonsIn bytes)
+
+-- what the line at a place says: the round's number, its kind, the items and the bidders, as reading gives them, and byte 0a behind them
+pub record LineSays (bytes : List ℕ) (at number : ℕ) (r : Reason) : Type 0 where
+  pub number-is : numberAt 4 bytes at ≡ some number
+  pub kind : numberAt 2 bytes (at + 4) ≡ some (r .kind)
+  pub items : numberAt 8 bytes (at + 6) ≡ some (r .items)
+  pub bidders : numberAt 16 bytes (at + 14) ≡ some (r .bidders)
+  pub ends : endsAt bytes (at + 30) ≡ true

@@ -1,21 +1,23 @@
 -- A raised set has more bidders who demand nothing outside it than items, and a lowered set is demanded by no more bidders than it has items: whatever the
--- demands are, so of every round of every path and of every round that reports give. THEORY.md 1.8. Then which rounds have a reason. Assumes nothing.
-use Prim.Native.Nat.{ℕ, suc, _+_, _-_, _≤_, _<_}
+-- demands are, so of every round of every path and of every round that reports give. THEORY.md 1.8. Then how large a reason's numbers are, and
+-- which rounds have a reason. Assumes nothing.
+use Prim.Native.Nat.{ℕ, suc, _+_, _-_, _^_, _≤_, _<_}
 use mathlib.Core.Path.{_≡_, sym, ap, _∙_, subst}
 use mathlib.Core.Bool.{Bool}
 use mathlib.Core.List.{List}
 use native.Mathlib.Omega.{arith}
 use lib.ListN.{length, length-map}
+use lib.Pow.{pow-pos}
 use borrow.Author.Tests.{ltb-true, leb-true}
 use Rattle.sets.specs.Bit.{isSet, setOf, size}
 use Rattle.sets.proofs.Counting.{count-cong, and-right}
-use Rattle.sets.proofs.Members.{isSet-setOf, setOf-cong}
+use Rattle.sets.proofs.Members.{isSet-setOf, setOf-cong, setOf-lt}
 use Rattle.rule.specs.Sheet.{Sheet}
 use Rattle.rule.specs.Demand.{Demand, demands, nth}
 use Rattle.rule.specs.Excess.{bidders, nonEmptyPart, somethingIn, nothingOutside, overdemanded, weaklyUnderdemanded, excessDemand, excessSupply, positive}
 use Rattle.rule.specs.Round.{Phase, Round, raised, lowered, closed, round, State, roundAt, path}
 use Rattle.rule.specs.Closing.{demandsAt, excessDemandAt, excessSupplyAt, Closing}
-use Rattle.rule.specs.Reasons.{biddersWith, reasonOf, reasonAt, roundCount, Justified}
+use Rattle.rule.specs.Reasons.{biddersWith, Reason, reasonOf, reasonAt, roundCount, Justified}
 use Rattle.rule.proofs.Largest.{demand-bound, supply-bound}
 use Rattle.rule.proofs.EmptySets.{rising-over, falling-under}
 use Rattle.rule.proofs.Moves.{some-item}
@@ -36,6 +38,17 @@ with-same ds f g h = setOf-cong (length ds) _ _ at
   where
     at : (b : ℕ) → b < length ds → f (nth ds (suc b - 1)) ≡ g (nth ds (suc b - 1))
     at b l = let e : b ≡ suc b - 1 = omega arith in subst (λ (j : ℕ). f (nth ds j) ≡ g (nth ds j)) e (h b l)
+
+-- no bit stands for a bidder past the last
+with-lt : (ds : List Demand) (f : Demand → Bool) → biddersWith ds f < 2 ^ length ds
+unfolding biddersWith
+with-lt ds f = setOf-lt (length ds) _
+
+-- of m items and n bidders a reason's numbers are small: its kind is at most 2, and the sets are sets of these items and of these bidders
+pub record Small (m n : ℕ) (r : Reason) : Type 0 where
+  pub kind : r .kind ≤ 2
+  pub items : r .items < 2 ^ m
+  pub bidders : r .bidders < 2 ^ n
 
 -- ---- whatever the demands are
 
@@ -58,25 +71,62 @@ module _ (m above : ℕ) (ds : List Demand) where
       let few = leb-true (bidders ds (somethingIn m s)) (size m s) (and-right (nonEmptyPart m s above) _ (falling-under m above ds (w .0) (w .1) (w .2))) in
       record { raised-more = λ e. absurd (omega (arith, e)); lowered-no-more = λ e. omega (arith, few, size-with ds (somethingIn m s)) }
 
-  pub justified : (ph : Phase) → Justified m (length ds) (reasonOf m ds (round m above ds ph))
-  justified ph = go (does m above ds ph)
+  -- a close has no reason
+  none-justified : Justified m (length ds) (reasonOf m ds closed)
+  unfolding reasonOf
+  none-justified = record { raised-more = λ e. absurd (omega (arith, e)); lowered-no-more = λ e. absurd (omega (arith, e)) }
+
+  -- what holds of the rising set raised, of the falling set lowered and of a close holds of every round
+  of-each : (P : Round → Type 0) → ((excessDemand m ds ≡ 0 → ⊥) → P (raised (excessDemand m ds)))
+      → ((excessSupply m above ds ≡ 0 → ⊥) → P (lowered (excessSupply m above ds))) → P closed → (ph : Phase) → P (round m above ds ph)
+  of-each P up down none ph = go (does m above ds ph)
     where
-      go : Does m above ds ph → Justified m (length ds) (reasonOf m ds (round m above ds ph))
-      go (raises ne e) = subst (λ (r : Round). Justified m (length ds) (reasonOf m ds r)) (sym e) (raised-justified ne)
-      go (lowers ne e) = subst (λ (r : Round). Justified m (length ds) (reasonOf m ds r)) (sym e) (lowered-justified ne)
-      go (closes f e) = subst (λ (r : Round). Justified m (length ds) (reasonOf m ds r)) (sym e) none
-        where
-          none : Justified m (length ds) (reasonOf m ds closed)
-          none = unfold reasonOf in record { raised-more = λ e. absurd (omega (arith, e)); lowered-no-more = λ e. absurd (omega (arith, e)) }
+      go : Does m above ds ph → P (round m above ds ph)
+      go (raises ne e) = subst P (sym e) (up ne)
+      go (lowers ne e) = subst P (sym e) (down ne)
+      go (closes f e) = subst P (sym e) none
+
+  -- so every round is justified
+  pub justified : (ph : Phase) → Justified m (length ds) (reasonOf m ds (round m above ds ph))
+  justified = of-each (λ x. Justified m (length ds) (reasonOf m ds x)) raised-justified lowered-justified none-justified
+
+  -- ---- how large a reason's numbers are
+
+  -- of a raised set, of a lowered set and of a close
+  raised-small : (s : ℕ) → s < 2 ^ m → Small m (length ds) (reasonOf m ds (raised s))
+  unfolding reasonOf
+  raised-small s l = record { kind = omega arith; items = l; bidders = with-lt ds (nothingOutside m s) }
+
+  lowered-small : (s : ℕ) → s < 2 ^ m → Small m (length ds) (reasonOf m ds (lowered s))
+  unfolding reasonOf
+  lowered-small s l = record { kind = omega arith; items = l; bidders = with-lt ds (somethingIn m s) }
+
+  none-small : Small m (length ds) (reasonOf m ds closed)
+  unfolding reasonOf
+  none-small = record { kind = omega arith; items = pow-pos m; bidders = pow-pos (length ds) }
+
+  -- so of every round
+  pub small : (ph : Phase) → Small m (length ds) (reasonOf m ds (round m above ds ph))
+  small =
+      of-each (λ x. Small m (length ds) (reasonOf m ds x)) (λ ne. raised-small (excessDemand m ds) (demand-bound m ds))
+      (λ ne. lowered-small (excessSupply m above ds) (supply-bound m above ds)) none-small
 
 -- ---- along a path
 
--- every round of every path, within the limits or not
-pub path-justified : (s : Sheet) (k : ℕ) → Justified (s .items) (length (s .bids)) (reasonAt s k)
-unfolding reasonAt roundAt demands
-path-justified s k =
-    subst (λ (n : ℕ). Justified (s .items) n (reasonAt s k)) (length-map (s .bids) _)
-    (justified (s .items) (positive (s .items) (path s k .prices)) (demandsAt s (path s k .prices)) (path s k .phase))
+-- every round of every path, within the limits or not: its bidders are the rows of bids
+module _ (s : Sheet) (k : ℕ) where
+  in-path : (P : ℕ → Reason → Type 0) → ((above : ℕ) (ds : List Demand) (ph : Phase) → P (length ds) (reasonOf (s .items) ds (round (s .items) above ds ph)))
+      → P (length (s .bids)) (reasonAt s k)
+  unfolding reasonAt roundAt demands
+  in-path P h =
+      subst (λ (n : ℕ). P n (reasonAt s k)) (length-map (s .bids) _)
+      (h (positive (s .items) (path s k .prices)) (demandsAt s (path s k .prices)) (path s k .phase))
+
+  pub path-justified : Justified (s .items) (length (s .bids)) (reasonAt s k)
+  path-justified = in-path (Justified (s .items)) (justified (s .items))
+
+  pub path-small : Small (s .items) (length (s .bids)) (reasonAt s k)
+  path-small = in-path (Small (s .items)) (small (s .items))
 
 -- the rounds to the close, and nothing else, have a reason: those to the turn raise the rising set, and the others lower the falling set
 module _ (s : Sheet) (c : Closing s) where

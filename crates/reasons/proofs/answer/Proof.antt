@@ -1,18 +1,16 @@
 -- `reasons::answer` meets its contract. Assumes nothing.
-use Prim.Native.Nat.{ℕ, _≤_, _<_}
+use Prim.Native.Nat.{ℕ, _<_}
 use mathlib.Core.Path.{_≡_, sym, ap, _∙_, subst}
 use mathlib.Core.List.{List}
 use native.Mathlib.Omega.{arith}
-use lib.ListN.{length}
 use Rattle.lines.specs.Lines.{numberLine}
-use Rattle.sheet.specs.Close.{byNumber}
-use Rattle.sheet.specs.Contents.{bidSheetRefusal, contentsOf}
+use Rattle.sheet.specs.Contents.{contentsOf}
 use Rattle.sheet.specs.Accepted.{sheetIn}
 use Rattle.sheet.specs.declared.Contents.{Contents}
-use Rattle.sheet.proofs.Ends.{by-some}
 use Rattle.sheet.proofs.Reading.{InOrder, contents-number, in-order}
-use Rattle.reasons.specs.Sheets.{reasonSheet, reasonsIn, fitting, answerOf}
+use Rattle.reasons.specs.Sheets.{reasonSheet, reasonsIn, answerOf}
 use Rattle.reasons.proofs.Fitting.{Written}
+use Rattle.reasons.proofs.Answers.{by-sheet, by-line}
 use borrow.Author.Needs.{needs}
 use Rattle.reasons.proofs.answer.Statement.{statement}
 use Rattle.reasons.proofs.answer.Tie as tie
@@ -22,15 +20,13 @@ module _ (bytes out text : List ℕ) (k : ℕ) (last : List ℕ) (w : Written ou
   answered : reasonsIn bytes ≡ text → Written out (reasonsIn bytes) k last
   answered e = subst (λ (x : List ℕ). Written out x k last) (sym e) w
 
+-- by the number that reading handed back
 module _ (bytes : List ℕ) (r : Contents) (e : r ≡ contentsOf bytes) where
   by-number : 0 < r .refusal → reasonsIn bytes ≡ numberLine (r .refusal)
-  unfolding reasonsIn
-  by-number l =
-      by-some (bidSheetRefusal bytes) (λ z. omega (arith, l, contents-number bytes r e)) _ _ ∙ ap numberLine (sym (contents-number bytes r e))
+  by-number l = by-line bytes (λ z. omega (arith, l, contents-number bytes r e)) ∙ ap numberLine (sym (contents-number bytes r e))
 
-  by-sheet : r .refusal ≡ 0 → reasonsIn bytes ≡ reasonSheet (sheetIn bytes)
-  unfolding reasonsIn
-  by-sheet z = ap (λ (k : ℕ). byNumber k (reasonSheet (sheetIn bytes)) (numberLine (bidSheetRefusal bytes))) (sym (contents-number bytes r e) ∙ z)
+  by-none : r .refusal ≡ 0 → reasonsIn bytes ≡ reasonSheet (sheetIn bytes)
+  by-none z = by-sheet bytes (sym (contents-number bytes r e) ∙ z)
 
 bid-sheet-requires : tie.Need-bid-sheet-requires
 bid-sheet-requires c κs = search needs
@@ -81,7 +77,7 @@ returns-2 c =
     let s = c .before .before .before .before .before .before .before .before .before .before .bid-sheet in
     let put = c .before .before .put-sheet in
     answered (a .bytes .now) (a .out .now) _ (put .result) (put .last .1 .1 .1 .1 .0) (put .ensures)
-    (by-sheet (a .bytes .now) (s .result) (s .ensures) (omega (arith, c .before .before .before .before .before .before .before .before .if1 .left)) ∙ ap reasonSheet (sym (read (c .before .before .before .before .before .before .before .before) .sheet)))
+    (by-none (a .bytes .now) (s .result) (s .ensures) (omega (arith, c .before .before .before .before .before .before .before .before .if1 .left)) ∙ ap reasonSheet (sym (read (c .before .before .before .before .before .before .before .before) .sheet)))
 
 pub answer-spec : {M : Type 1} → statement M
 answer-spec =
