@@ -141,16 +141,20 @@ module _ (m n : ℕ) (prices bids : List ℕ) (c : Complete m n (length bids)) w
         ∙ sym (nth-demands m (rowsOf m n bids) prices b (omega (arith, l, rows-length m n bids)))
 
     pub collect-next : (sets : List ℕ) (nulls : ℕ) → Collected m n prices bids sets nulls b → (items : ℕ) → items ≡ demand (length line) prices line .items
-        → (on : Bool) → on ≡ demand (length line) prices line .null → (next : ℕ) → next ≡ setOf 64 (λ k. has nulls k || (on && eqb k (b + 1))) → Collected m n prices bids (set sets b items) next (b + 1)
+        → (on : Bool) → on ≡ demand (length line) prices line .null → (next : ℕ) → next ≡ setOf 64 (λ k. has nulls k || (on && eqb k (b + 1)))
+        → Collected m n prices bids (set sets b items) next (b + 1)
     collect-next sets nulls t items ei on eo next en =
         let own : b ≡ b + 1 - 1 = omega arith in
         record {
           most = omega arith;
           filled = fill-next 64 _ b sets items (t .filled) (omega (arith, l, c .max-bidders)) (ei ∙ ap (λ (d : Demand). d .items) demand-is);
-          null = add-next 64 (λ j. nth ds (j - 1) .null) b (omega (arith, l, c .max-bidders)) nulls on next (t .null) (eo ∙ ap (λ (d : Demand). d .null) demand-is ∙ ap (λ (k : ℕ). nth ds k .null) own) en;
+          null =
+              add-next 64 (λ j. nth ds (j - 1) .null) b (omega (arith, l, c .max-bidders)) nulls on next (t .null)
+              (eo ∙ ap (λ (d : Demand). d .null) demand-is ∙ ap (λ (k : ℕ). nth ds k .null) own) en;
         }
 
-  pub collect-end : (sets : List ℕ) (nulls b : ℕ) → Collected m n prices bids sets nulls b → n ≤ b → record { sets = sets; nulls = nulls } ≡ held (demandsOf m n prices bids)
+  pub collect-end : (sets : List ℕ) (nulls b : ℕ) → Collected m n prices bids sets nulls b → n ≤ b
+      → record { sets = sets; nulls = nulls } ≡ held (demandsOf m n prices bids)
   unfolding demandsOf
   collect-end sets nulls b t l =
       ap₂ (λ (x : List ℕ) (y : ℕ). record { sets = x; nulls = y }) sets-are nulls-are

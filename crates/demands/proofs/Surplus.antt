@@ -1,7 +1,7 @@
 -- The options of the highest surplus. Assumes nothing.
 use Prim.Native.Nat.{ℕ, zero, suc, _+_, _-_, _≤_, _<_}
 use mathlib.Core.Path.{_≡_, sym, ap, _∙_}
-use mathlib.Core.Bool.{true}
+use mathlib.Core.Bool.{Bool, true}
 use mathlib.Core.List.{List}
 use mathlib.Core.Logic.{_⊎_, inl, inr}
 use native.Mathlib.Omega.{arith}
@@ -18,26 +18,34 @@ use Rattle.rule.specs.Equilibrium.{greatest}
 use Rattle.rule.proofs.Greatest.{greatest-ge, greatest-some}
 
 module _ (m : ℕ) (p b : List ℕ) (x : ℕ) (e : x ≡ greatest m (λ i. amount b i - amount p i)) where
+  -- how far an option's bid is over its price
+  abbrev gain : ℕ → ℕ
+  gain i = amount b i - amount p i
+
+  -- option i has no less surplus than option j
+  abbrev atLeast : ℕ → ℕ → Bool
+  atLeast i j = leb (amount b j + amount p i) (amount b i + amount p j)
+
   -- no option has a higher surplus
   most : (i : ℕ) → i < suc m → amount b i ≤ amount p i + x
   unfolding amount
   most zero l = omega arith
-  most (suc k) l = omega (arith, e, greatest-ge m (λ i. amount b i - amount p i) (suc k) (omega arith) l)
+  most (suc k) l = omega (arith, e, greatest-ge m gain (suc k) (omega arith) l)
 
   -- who has it is best
   is-best : (i : ℕ) → amount b i ≡ amount p i + x → best m p b i ≡ true
   unfolding best each surplusAtLeast
-  is-best i h = all-make (suc m) (λ j. leb (amount b j + amount p i) (amount b i + amount p j)) (λ j l. le-leb (amount b j + amount p i) (amount b i + amount p j) (omega (arith, h, most j l)))
+  is-best i h = all-make (suc m) (atLeast i) (λ j l. le-leb (amount b j + amount p i) (amount b i + amount p j) (omega (arith, h, most j l)))
 
   -- and the best has it
   best-is : (i : ℕ) → i < suc m → best m p b i ≡ true → amount b i ≡ amount p i + x
   unfolding best each surplusAtLeast amount
-  best-is i l h = go (greatest-some m (λ i. amount b i - amount p i))
+  best-is i l h = go (greatest-some m gain)
     where
       at : (j : ℕ) → j < suc m → amount b j + amount p i ≤ amount b i + amount p j
-      at j lj = leb-true (amount b j + amount p i) (amount b i + amount p j) (all-use (suc m) (λ j. leb (amount b j + amount p i) (amount b i + amount p j)) h j lj)
+      at j lj = leb-true (amount b j + amount p i) (amount b i + amount p j) (all-use (suc m) (atLeast i) h j lj)
 
-      go : (greatest m (λ i. amount b i - amount p i) ≡ 0) ⊎ ((j : ℕ) × (0 < j) × (j < suc m) × (amount b j - amount p j ≡ greatest m (λ i. amount b i - amount p i))) → amount b i ≡ amount p i + x
+      go : (greatest m gain ≡ 0) ⊎ ((j : ℕ) × (0 < j) × (j < suc m) × (gain j ≡ greatest m gain)) → amount b i ≡ amount p i + x
       go (inl z) = omega (arith, e, z, most i l, at 0 (omega arith))
       go (inr w) = omega (arith, e, w .3, most i l, most (w .0) (w .2), at (w .0) (w .2), at 0 (omega arith))
 

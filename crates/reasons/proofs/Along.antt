@@ -16,6 +16,7 @@ use Rattle.rule.specs.Demand.{Demand, demands}
 use Rattle.rule.specs.Excess.{positive}
 use Rattle.rule.specs.Round.{Round, lowered, State, move, opening, after, path, close}
 use Rattle.rule.specs.Closing.{demandsAt, excessSupplyAt, roundOf, Closing}
+use Rattle.rule.specs.Reasons as rule
 use Rattle.rule.specs.Reasons.{reasonOf, reasonAt, roundCount}
 use Rattle.rule.proofs.Largest.{demand-bound, supply-bound}
 use Rattle.rule.proofs.Reasons.{count-is}
@@ -52,7 +53,8 @@ module _ (s : Sheet) (g : Ready s) where
     in-places = places-amount items most q (long k)
 
     pub past-items : positive 32 p ≡ positive (s .items) p
-    past-items = ap (positive 32) here ∙ positive-wide items most q (long k) ∙ sym (ap (positive items) here ∙ positive-places items most q (long k) items)
+    past-items =
+        ap (positive 32) here ∙ positive-wide items most q (long k) ∙ sym (ap (positive items) here ∙ positive-places items most q (long k) items)
 
     module _ (falls : Bool) (turned : falls ≡ leb (close s .ups) k) where
       abbrev set : ℕ
@@ -69,7 +71,8 @@ module _ (s : Sheet) (g : Ready s) where
           by false e = c .rises k (omega (arith, ups-is, leb-false (close s .ups) k (sym e)))
           by true e =
               let since : k ≡ c .ups + (k - c .ups) = omega (arith, ups-is, leb-true (close s .ups) k (sym e)) in
-              subst (λ (j : ℕ). roundOf s j ≡ lowered (excessSupplyAt s (path s j .prices))) (sym since) (c .falls (k - c .ups) (omega (arith, since, l, count-is s c)))
+              subst (λ (j : ℕ). roundOf s j ≡ lowered (excessSupplyAt s (path s j .prices))) (sym since)
+              (c .falls (k - c .ups) (omega (arith, since, l, count-is s c)))
 
       set-small : set < 2 ^ items
       set-small = by falls
@@ -82,16 +85,23 @@ module _ (s : Sheet) (g : Ready s) where
         -- at the path's own prices
         found-there : ReasonIs items (positive items q) (demandsAt s q) falls r
         found-there =
-            subst (λ (ds : List Demand). ReasonIs items (positive items q) ds falls r) (ap (demands items (s .bids)) here ∙ demands-places items most q (long k) (s .bids))
-            (subst (λ (a : ℕ). ReasonIs items a (demands items (s .bids) p) falls r) (ap (positive items) here ∙ positive-places items most q (long k) items) found)
+            subst (λ (ds : List Demand). ReasonIs items (positive items q) ds falls r)
+            (ap (demands items (s .bids)) here ∙ demands-places items most q (long k) (s .bids))
+            (subst (λ (a : ℕ). ReasonIs items a (demands items (s .bids) p) falls r)
+            (ap (positive items) here ∙ positive-places items most q (long k) items) found)
 
         pub line-is : reasonLine (k + 1) (record { kind = r .kind; items = r .items; bidders = r .bidders }) ≡ lineOf s k
         unfolding reasonAt
         line-is =
             ap (reasonLine (k + 1))
-            (ap₂ (λ (a b : ℕ). record { kind = a; items = b; bidders = r .bidders }) (found-there .kind) (found-there .items)
-            ∙ ap (λ (w : ℕ). record { kind = reasonOf items (demandsAt s q) (moveBy falls set) .kind; items = reasonOf items (demandsAt s q) (moveBy falls set) .items; bidders = w }) (found-there .bidders)
+            (ap₂ (λ (a b : ℕ). made a b (r .bidders)) (found-there .kind) (found-there .items) ∙ ap (made (there .kind) (there .items)) (found-there .bidders)
             ∙ ap (reasonOf items (demandsAt s q)) (sym round-is))
+          where
+            made : ℕ → ℕ → ℕ → rule.Reason
+            made a b w = record { kind = a; items = b; bidders = w }
+
+            there : rule.Reason
+            there = reasonOf items (demandsAt s q) (moveBy falls set)
 
         set-is : r .items ≡ set
         unfolding reasonOf

@@ -1,5 +1,4 @@
--- The definitions applied to the smallest cases that tell a wrong one from them, by computation. The checker takes modules by name, and this one comes first:
--- the first error that a wrong definition meets stands here. Assumes nothing.
+-- The definitions applied to the smallest cases that tell a wrong one from them, by computation; the rule's own are in its `proofs/Applied`. Assumes nothing.
 use Prim.Native.Nat.{ℕ}
 use mathlib.Core.Path.{_≡_, refl, _∙_}
 use mathlib.Core.List.{List, [], _∷_, _++_}

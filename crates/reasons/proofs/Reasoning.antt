@@ -33,17 +33,23 @@ module _ (m n : ℕ) (prices bids : List ℕ) (c : Complete m n (length bids)) (
   set-is a ea =
       let q : a ≡ above = ea ∙ past in
       ap₂ (λ (x y : ℕ). cond falls x y)
-      (falling-narrow m n (d .sets) (found .reported) (d .nulls) a (subst (λ (x : ℕ). x < 2 ^ m) (sym q) (positive-lt m prices)) ∙ ap₂ (excessSupply m) q (found .same))
+      (falling-narrow m n (d .sets) (found .reported) (d .nulls) a (subst (λ (x : ℕ). x < 2 ^ m) (sym q) (positive-lt m prices))
+      ∙ ap₂ (excessSupply m) q (found .same))
       (rising-narrow m n (d .sets) (found .reported) (d .nulls) ∙ ap (excessDemand m) (found .same))
 
   -- and so are the bidders
   who-is : (s : ℕ) → biddersWith (reports n (d .sets) (d .nulls)) (countsFor falls 32 s) ≡ biddersWith ds (countsFor falls m s)
-  who-is s =
-      with-same (reports n (d .sets) (d .nulls)) (countsFor falls 32 s) (countsFor falls m s)
-      (λ b l. let lb : b < n = subst (λ (k : ℕ). b < k) (reports-length n (d .sets) (d .nulls)) l in
-      let small = subst (λ (x : Demand). x .items < 2 ^ m) (sym (report n (d .sets) (d .nulls) b lb)) (found .reported .small b lb) in
-      ap₂ (λ (x y : Bool). cond falls x y) (something-narrow m (c .max-items) s (nth (reports n (d .sets) (d .nulls)) b) small) (outside-narrow m (c .max-items) s (nth (reports n (d .sets) (d .nulls)) b) small))
-      ∙ ap (λ (xs : List Demand). biddersWith xs (countsFor falls m s)) (found .same)
+  who-is s = with-same said (countsFor falls 32 s) (countsFor falls m s) at ∙ ap (λ (xs : List Demand). biddersWith xs (countsFor falls m s)) (found .same)
+    where
+      said : List Demand
+      said = reports n (d .sets) (d .nulls)
+
+      at : (b : ℕ) → b < length said → countsFor falls 32 s (nth said b) ≡ countsFor falls m s (nth said b)
+      at b l =
+          let lb : b < n = subst (λ (k : ℕ). b < k) (reports-length n (d .sets) (d .nulls)) l in
+          let small = subst (λ (x : Demand). x .items < 2 ^ m) (sym (report n (d .sets) (d .nulls) b lb)) (found .reported .small b lb) in
+          ap₂ (λ (x y : Bool). cond falls x y)
+          (something-narrow m (c .max-items) s (nth said b) small) (outside-narrow m (c .max-items) s (nth said b) small)
 
   pub reason-is : (a s k w : ℕ) → a ≡ positive 32 prices → s ≡ movingSet falls 32 a (reports 64 (d .sets) (d .nulls)) → k ≡ cond falls 2 1
       → w ≡ biddersWith (reports n (d .sets) (d .nulls)) (countsFor falls 32 s) → ReasonIs m above ds falls (record { kind = k; items = s; bidders = w })
@@ -51,6 +57,7 @@ module _ (m n : ℕ) (prices bids : List ℕ) (c : Complete m n (length bids)) (
   reason-is a s k w ea es ek ew =
       by falls (es ∙ set-is a ea) ek (ew ∙ who-is s)
     where
-      by : (f : Bool) → s ≡ movingSet f m above ds → k ≡ cond f 2 1 → w ≡ biddersWith ds (countsFor f m s) → ReasonIs m above ds f (record { kind = k; items = s; bidders = w })
+      by : (f : Bool) → s ≡ movingSet f m above ds → k ≡ cond f 2 1 → w ≡ biddersWith ds (countsFor f m s)
+          → ReasonIs m above ds f (record { kind = k; items = s; bidders = w })
       by true q ek ew = record { kind = ek; items = q; bidders = ew ∙ ap (λ (x : ℕ). biddersWith ds (somethingIn m x)) q }
       by false q ek ew = record { kind = ek; items = q; bidders = ew ∙ ap (λ (x : ℕ). biddersWith ds (nothingOutside m x)) q }
