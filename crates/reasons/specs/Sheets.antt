@@ -32,6 +32,7 @@ reasonsIn bytes = byNumber (bidSheetRefusal bytes) (reasonSheet (sheetIn bytes))
 unfoldable pub fitting : (room : ℕ) → List ℕ → List ℕ
 fitting room text = cond (ltb room (length text)) [] text
 
+-- what is written for a bid sheet where so many bytes are lent
 unfoldable pub answerOf : List ℕ → (room : ℕ) → List ℕ
 answerOf bytes room = fitting room (reasonsIn bytes)
 
