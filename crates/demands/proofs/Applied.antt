@@ -4,14 +4,17 @@ use mathlib.Core.Path.{_≡_, refl}
 use mathlib.Core.Bool.{true, false}
 use mathlib.Core.List.{List, [], _∷_}
 use lib.ListN.{take}
-use Rattle.sets.specs.Bit.{setOf}
+use Rattle.sets.specs.Count.{allBelow}
+use Rattle.sets.specs.Bit.{setOf, each}
 use Rattle.sets.specs.Lists.{tabulate, places}
-use Rattle.rule.specs.Demand.{Demand, nth}
-use Rattle.demands.specs.Demands.{complete, held}
+use Rattle.rule.specs.Sheet.{amount}
+use Rattle.rule.specs.Demand.{surplusAtLeast, best, Demand, demand, demands, nth}
+use Rattle.bids.specs.Lent.{lineOf, rowsOf}
+use Rattle.demands.specs.Demands.{complete, demandsOf, held}
 
 -- the definitions that the cases compute with
 computing : Unit {0}
-unfolding complete held setOf tabulate places nth
+unfolding allBelow setOf each tabulate places amount surplusAtLeast best demand demands nth lineOf rowsOf complete demandsOf held
 computing = tt
 
 -- the most items and bidders, and one more of each
@@ -27,10 +30,23 @@ pub bidders-past : complete 1 65 65 ≡ false
 unfolding computing
 bidders-past = refl
 
--- a bid too few
+-- a bid too few, and one too many
 pub bid-missing : complete 2 2 3 ≡ false
 unfolding computing
 bid-missing = refl
+
+pub bid-left-over : complete 2 2 5 ≡ false
+unfolding computing
+bid-left-over = refl
+
+-- one item at 1 and a bidder who bids 2; without the bid there is nobody
+pub somebody : demandsOf 1 1 (1 ∷ []) (2 ∷ []) ≡ record { null = false; items = 1 } ∷ []
+unfolding computing
+somebody = refl
+
+pub nobody : demandsOf 1 1 (1 ∷ []) [] ≡ []
+unfolding computing
+nobody = refl
 
 -- bidder 1 demands item 1, bidder 2 item 2 and null
 abbrev two : List Demand

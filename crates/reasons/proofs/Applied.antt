@@ -23,11 +23,11 @@ use Rattle.sheet.specs.BidSheet.{itemsIn, biddersIn, bidsAt, readSheet}
 use Rattle.sheet.specs.Close.{itemsOf, biddersOf, bidSheetOf}
 use Rattle.sheet.specs.Contents.{bidSheetRefusal}
 use Rattle.sheet.specs.Accepted.{sheetIn}
-use Rattle.reasons.specs.Sheets.{reasonLine, reasonSheet, reasonsIn, fitting}
+use Rattle.reasons.specs.Sheets.{reasonLine, reasonSheet, reasonsIn, fitting, answerOf}
 
 -- the definitions that the cases compute with
 computing : Unit {0}
-unfolding allBelow anyBelow count bit isSet has setOf each any size largestBelow largest tabulate amount surplusAtLeast best demand demands wants nth bidders crowded inExcess inPositiveExcess excessDemand positiveExcessDemand excessSupply positive raise lower roundFalling round move roundAt after opening path biddersWith reasonOf reasonAt digit hex newline joined numberText numberLine reasonLine reasonSheet reasonsIn fitting
+unfolding allBelow anyBelow count bit isSet has setOf each any size largestBelow largest tabulate amount surplusAtLeast best demand demands wants nth bidders crowded inExcess inPositiveExcess excessDemand positiveExcessDemand excessSupply positive raise lower roundFalling round move roundAt after opening path biddersWith reasonOf reasonAt digit hex newline joined numberText numberLine reasonLine reasonSheet reasonsIn fitting answerOf
 computing = tt
 
 -- and those by which a bid sheet is read
@@ -89,15 +89,15 @@ pub no-items : reasonsIn (48 ∷ 48 ∷ 48 ∷ 49 ∷ []) ≡ 48 ∷ 49 ∷ 10 �
 unfolding computing reading
 no-items = refl
 
--- three bytes fit where three or four are lent, and not where two are
-pub fits-exactly : fitting 3 (48 ∷ 54 ∷ 10 ∷ []) ≡ 48 ∷ 54 ∷ 10 ∷ []
-unfolding computing
+-- the line of 6 is written where its three bytes fit, and nothing of it where two are lent
+pub fits-exactly : answerOf [] 3 ≡ 48 ∷ 54 ∷ 10 ∷ []
+unfolding computing reading
 fits-exactly = refl
 
-pub fits-with-more : fitting 4 (48 ∷ 54 ∷ 10 ∷ []) ≡ 48 ∷ 54 ∷ 10 ∷ []
-unfolding computing
+pub fits-with-more : answerOf [] 4 ≡ 48 ∷ 54 ∷ 10 ∷ []
+unfolding computing reading
 fits-with-more = refl
 
-pub not-in-fewer : fitting 2 (48 ∷ 54 ∷ 10 ∷ []) ≡ []
-unfolding computing
+pub not-in-fewer : answerOf [] 2 ≡ []
+unfolding computing reading
 not-in-fewer = refl

@@ -170,6 +170,11 @@ pub fall-for : reasonOf 2 (only 2 ∷ only 3 ∷ orNull 1 ∷ []) (lowered 1) �
 unfolding computing
 fall-for = refl
 
+-- a close moves nothing, whatever is demanded
+pub close-for-nobody : reasonOf 1 (only 1 ∷ []) closed ≡ record { kind = 0; items = 0; bidders = 0 }
+unfolding computing
+close-for-nobody = refl
+
 -- one item at 0 and bids of 1 and 2: both demand it alone before the round that raises it, and after that only who bid 2
 pub before-the-round : reasonAt (record { items = 1; start = 0 ∷ []; bids = (1 ∷ []) ∷ (2 ∷ []) ∷ [] }) 0 ≡ record { kind = 1; items = 1; bidders = 3 }
 unfolding computing

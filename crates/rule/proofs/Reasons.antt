@@ -128,7 +128,8 @@ module _ (s : Sheet) (k : ℕ) where
   pub path-small : Small (s .items) (length (s .bids)) (reasonAt s k)
   path-small = in-path (Small (s .items)) (small (s .items))
 
--- the rounds to the close, and nothing else, have a reason: those to the turn raise the rising set, and the others lower the falling set
+-- the rounds to the close, and nothing else, have a reason: those to the turn raise the rising set, the others lower the falling set, and from the close on
+-- nothing moves
 module _ (s : Sheet) (c : Closing s) where
   pub rise-reason : (k : ℕ) → k < c .ups → reasonAt s k ≡ reasonOf (s .items) (demandsAt s (path s k .prices)) (raised (excessDemandAt s (path s k .prices)))
   unfolding reasonAt
@@ -138,6 +139,12 @@ module _ (s : Sheet) (c : Closing s) where
       → reasonAt s (c .ups + k) ≡ reasonOf (s .items) (demandsAt s (path s (c .ups + k) .prices)) (lowered (excessSupplyAt s (path s (c .ups + k) .prices)))
   unfolding reasonAt
   fall-reason k l = ap (reasonOf (s .items) (demandsAt s (path s (c .ups + k) .prices))) (c .falls k l)
+
+  pub no-reason : (k : ℕ) → reasonAt s (c .ups + c .downs + k) ≡ record { kind = 0; items = 0; bidders = 0 }
+  unfolding reasonAt reasonOf
+  no-reason k =
+      let last : ℕ = c .ups + c .downs in
+      ap (reasonOf (s .items) (demandsAt s (path s (last + k) .prices))) (ap (roundAt (s .items) (s .bids)) (c .stays k) ∙ c .closes)
 
   pub count-is : roundCount s ≡ c .ups + c .downs
   unfolding roundCount
