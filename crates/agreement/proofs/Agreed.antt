@@ -81,25 +81,25 @@ holding m n p sets nulls reported ph ups downs =
       lowered = downs;
     }
 
--- ---- one item at 1, one bidder who bids 0: lowered and closed, and refused before and after
+-- ---- one item at 1, one bidder who bids 1: lowered and closed, and refused before and after
 
 abbrev pub one : Sheet
-one = record { items = 1; start = 1 ∷ []; bids = (0 ∷ []) ∷ [] }
+one = record { items = 1; start = 1 ∷ []; bids = (1 ∷ []) ∷ [] }
 
 abbrev pub oneList : Answers
 oneList =
     (reading [], shown 15 [])
     ∷ (ending, ended (refused 14))
-    ∷ (reporting 1 (saying true 0), told 0)
-    ∷ (reporting 1 (saying true 0), told 13)
-    ∷ (ending, ended (gives (lowered 1)))
     ∷ (reporting 1 (saying true 1), told 0)
+    ∷ (reporting 1 (saying true 1), told 13)
+    ∷ (ending, ended (gives (lowered 1)))
+    ∷ (reporting 1 (saying false 1), told 0)
     ∷ (ending, ended (gives closed))
     ∷ (clearing, told 12)
     ∷ []
 
 abbrev pub closedOne : Auction
-closedOne = holding 1 1 (0 ∷ []) (1 ∷ []) 1 1 Closed 0 1
+closedOne = holding 1 1 (0 ∷ []) (1 ∷ []) 0 1 Closed 0 1
 
 pub closes : Agreed one oneList closedOne
 unfolding computing
@@ -121,6 +121,26 @@ machine-reads = refl
 pub live-reads : run closedOne (callsOf readOne) ≡ record { answers = answersOf readOne; last = closedOne }
 unfolding computing
 live-reads = refl
+
+-- ---- K5, one item at 0 and one bidder who bids 0: the report that follows the sheet is null alone, and the read shows no item
+abbrev pub zero-bid : Sheet
+zero-bid = record { items = 1; start = 0 ∷ []; bids = (0 ∷ []) ∷ [] }
+
+abbrev pub zeroList : Answers
+zeroList =
+    (reporting 1 (saying true 0), told 0)
+    ∷ (ending, ended (gives closed))
+    ∷ (reading (replicate 21 7), shown 0 (48 ∷ 48 ∷ 48 ∷ 48 ∷ 48 ∷ 48 ∷ 48 ∷ 48 ∷ 48 ∷ 48 ∷ 48 ∷ 48 ∷ 10 ∷ 48 ∷ 48 ∷ 48 ∷ 48 ∷ 10 ∷ 48 ∷ 48 ∷ 10 ∷ []))
+    ∷ []
+
+pub no-item : Agreed zero-bid zeroList (holding 1 1 (0 ∷ []) [] 1 1 Closed 0 0)
+unfolding computing
+no-item = record { machine-answers = refl; machine-holds = refl; live = refl }
+
+-- with the item beside null, which the live auction takes as any report, it leaves the sheet
+pub leaves-with-it : machineRun zero-bid begin (reporting 1 (saying true 1) ∷ ending ∷ []) ≡ left
+unfolding computing
+leaves-with-it = refl
 
 -- ---- example 6: its first round raises item 2 and empties the reports
 pub raises : Agreed (record { items = 2; start = 4 ∷ 4 ∷ []; bids = (2 ∷ 6 ∷ []) ∷ (3 ∷ 7 ∷ []) ∷ (6 ∷ 7 ∷ []) ∷ [] })

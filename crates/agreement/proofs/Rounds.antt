@@ -1,23 +1,20 @@
 -- A round by cases, and what it does to prices in 32 places and to their sum. Assumes nothing.
 use Prim.Native.Nat.{ℕ, zero, suc, _*_, _^_, _≤_, _<_}
-use mathlib.Core.Path.{_≡_, refl, sym, _∙_}
-use mathlib.Core.Bool.{Bool, true, false, not}
+use mathlib.Core.Path.{_≡_, refl, _∙_}
+use mathlib.Core.Bool.{Bool, true, false}
 use mathlib.Core.List.{List}
 use native.Mathlib.Omega.{arith}
 use native.Mathlib.Decide.{decLe, ℕ-discrete}
-use borrow.Author.Tests.{ltb-true}
 use Rattle.sets.specs.Bit.{has}
 use Rattle.sets.specs.Sum.{sum}
-use Rattle.sets.proofs.Counting.{and-left, not-both}
+use Rattle.sets.proofs.Counting.{not-both}
 use Rattle.sets.proofs.Members.{has-zero, has-past}
 use Rattle.sets.proofs.Sums.{sum-less, sum-bound}
 use Rattle.rule.specs.Sheet.{amount, priceSum}
 use Rattle.rule.specs.Demand.{Demand}
-use Rattle.rule.specs.Excess.{excessDemand, positiveExcessDemand, excessSupply, positive}
+use Rattle.rule.specs.Excess.{excessDemand, excessSupply}
 use Rattle.rule.specs.Round.{Phase, rising, falling, raised, lowered, closed, round, raise, lower}
-use Rattle.rule.proofs.Balance.{positive-is, amount-null}
-use Rattle.rule.proofs.Largest.{supply-has}
-use Rattle.rule.proofs.Limits.{amount-beyond}
+use Rattle.rule.proofs.Limits.{amount-null, amount-beyond}
 use Rattle.rule.proofs.Moves.{raise-length, lower-length, raised-in, raised-out, raised-le, lowered-in, lowered-le, some-item}
 use Rattle.rule.proofs.Path.{round-raised, round-lowered, round-closed, round-turned, round-falling}
 
@@ -42,13 +39,6 @@ module _ (m above : ℕ) (ds : List Demand) where
       go rising (yes e) (yes f) = closes (λ q. e) f (round-turned m above ds e rising ∙ round-closed m above ds f)
       go falling d (no nf) = lowers (λ q. absurd (not-rising q)) nf (round-falling m above ds ∙ round-lowered m above ds nf)
       go falling d (yes f) = closes (λ q. absurd (not-rising q)) f (round-falling m above ds ∙ round-closed m above ds f)
-
--- an item of the falling set has a price above 0
-pub supply-positive : (m : ℕ) (p : List ℕ) (ds : List Demand) (i : ℕ) → i < suc m → has (excessSupply m (positive m p) ds) i ≡ true → 0 < amount p i
-supply-positive m p ds i l e =
-    let both = sym (supply-has m (positive m p) ds i l) ∙ e in
-    let h = and-left (has (positive m p) i) (not (has (positiveExcessDemand m (positive m p) ds) i)) both in
-    ltb-true 0 (amount p i) (sym (positive-is m p i l) ∙ h)
 
 -- ---- prices in 32 places
 

@@ -13,14 +13,14 @@ use Rattle.sets.proofs.Counting.{and-left, and-right, and-both, any-make, not-b
 use Rattle.rule.specs.Sheet.{amount, priceSum}
 use Rattle.rule.specs.Round.{rising, falling, Round, raised, lowered, closed}
 use Rattle.rule.specs.Round.{Phase as RulePhase}
-use Rattle.rule.proofs.Largest.{demand-bound, supply-bound}
+use Rattle.rule.proofs.Largest.{demand-bound, supply-bound, supply-positive}
 use Rattle.live.specs.Auction.{place, hasReported, missing, reportsOf, aboveZero, risingSet, fallingSet, roundsFit, closeFits}
 use Rattle.live.specs.Calls.{isClosed, isFalling, isRising, atTop, ruled, roundBy, settled}
 use Rattle.live.specs.declared.Auction.{Auction}
 use Rattle.live.specs.declared.Phase.{Phase}
 use Rattle.live.specs.declared.Phase.the-variants.{Rising, Falling, Closed}
 use Rattle.live.proofs.Formed.{Formed}
-use Rattle.agreement.proofs.Rounds.{Takes, raises, lowers, closes, takes, supply-positive, raise-past, lower-past, raise-range, lower-range, raise-more, lower-less, sum-max}
+use Rattle.agreement.proofs.Rounds.{Takes, raises, lowers, closes, takes, raise-past, lower-past, raise-range, lower-range, raise-more, lower-less, sum-max}
 use Rattle.agreement.proofs.Keeps.{without-reports, not-closed}
 
 -- ---- phases

@@ -1,4 +1,4 @@
--- Document 01, "Lettings to try": K1 to K9, row by row as they stand there, in one table with one statement. Items are its pans, bidders its rakers, prices
+-- Document 01, "Lettings to try": K1 to K9, row by row as they stand there, K5 and K7 with the names of document 02, #102, in one table with one statement. Items are its pans, bidders its rakers, prices
 -- its rents, options its names. Assumes nothing: these are definitions.
 use Prim.Native.Nat.{ℕ, _+_, _-_, _^_, _<_}
 use mathlib.Core.Bool.{true, false}
@@ -91,11 +91,11 @@ table =
       finds = falling (1 ∷ 2 ∷ []) ∷ closing 0 3 (0 ∷ 0 ∷ []) (1 ∷ 2 ∷ []) ∷ [];
     }
     -- K5
-    ∷ record { given = sheet 1 1 (0 ∷ []) ((0 ∷ []) ∷ []); finds = closing 0 0 (0 ∷ []) (1 ∷ []) ∷ [] }
+    ∷ record { given = sheet 1 1 (0 ∷ []) ((0 ∷ []) ∷ []); finds = closing 0 0 (0 ∷ []) (0 ∷ []) ∷ [] }
     -- K6
     ∷ record { given = sheet 1 2 (0 ∷ []) ((4095 ∷ []) ∷ (4095 ∷ []) ∷ []); finds = closing 4095 0 (4095 ∷ []) (1 ∷ 0 ∷ []) ∷ [] }
     -- K7
-    ∷ record { given = sheet 1 1 (4095 ∷ []) ((0 ∷ []) ∷ []); finds = closing 0 4095 (0 ∷ []) (1 ∷ []) ∷ [] }
+    ∷ record { given = sheet 1 1 (4095 ∷ []) ((0 ∷ []) ∷ []); finds = closing 0 4095 (0 ∷ []) (0 ∷ []) ∷ [] }
     -- K8
     ∷ record {
       given = sheet 3 3 (0 ∷ 0 ∷ 0 ∷ []) ((5 ∷ 5 ∷ 0 ∷ []) ∷ (0 ∷ 5 ∷ 5 ∷ []) ∷ (5 ∷ 0 ∷ 5 ∷ []) ∷ []);

@@ -1,13 +1,13 @@
 -- The options of the highest surplus. Assumes nothing.
 use Prim.Native.Nat.{ℕ, zero, suc, _+_, _-_, _≤_, _<_}
 use mathlib.Core.Path.{_≡_, sym, ap, _∙_}
-use mathlib.Core.Bool.{Bool, true}
+use mathlib.Core.Bool.{Bool, true, _&&_}
 use mathlib.Core.List.{List}
 use mathlib.Core.Logic.{_⊎_, inl, inr}
 use native.Mathlib.Omega.{arith}
 use native.Mathlib.Decide.{ℕ-discrete}
 use native.Mathlib.Numerals.{add-one}
-use lib.Dec.{eqb, leb}
+use lib.Dec.{ltb, eqb, leb}
 use lib.ListN.{getD}
 use borrow.Author.Tests.{eq-eqb, ne-eqb, leb-true, le-leb}
 use Rattle.sets.specs.Bit.{each}
@@ -58,9 +58,10 @@ module _ (m : ℕ) (p b : List ℕ) (x : ℕ) (e : x ≡ greatest m (λ i. amoun
 
   -- ---- the code's tests, of an item and of null
 
-  pub item-test : (k : ℕ) → k < m → eqb (getD b k 0) (getD p k 0 + x) ≡ best m p b (k + 1)
+  pub item-test : (k : ℕ) → k < m → ltb 0 (getD b k 0) && eqb (getD b k 0) (getD p k 0 + x) ≡ ltb 0 (amount b (k + 1)) && best m p b (k + 1)
   unfolding amount
-  item-test k l = test-is (suc k) (omega arith) ∙ ap (best m p b) (sym (add-one k))
+  item-test k l =
+      ap (λ (t : Bool). ltb 0 (amount b (suc k)) && t) (test-is (suc k) (omega arith)) ∙ ap (λ (i : ℕ). ltb 0 (amount b i) && best m p b i) (sym (add-one k))
 
   pub null-test : eqb x 0 ≡ demand m p b .null
   unfolding demand amount

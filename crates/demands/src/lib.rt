@@ -1,7 +1,8 @@
 // What bidders demand at prices.
 ghost use mathlib.Core.Path.{_≡_};
+ghost use mathlib.Core.Bool.{_&&_};
 ghost use Prim.Native.Nat.{_+_, _-_, _≤_};
-ghost use lib.Dec.{eqb};
+ghost use lib.Dec.{ltb, eqb};
 ghost use lib.ListN.{length};
 ghost use Rattle.rule.specs.Sheet.{amount};
 ghost use Rattle.rule.specs.Demand.{demand};
@@ -22,14 +23,17 @@ fn highest(prices: &[u16; 32], line: &[u16]) -> u16
     top
 }
 
-// Whether the surplus of an item is this much.
-fn gives(bid: u16, price: u16, surplus: u16) -> bool
-    ensures { λ r. ⌜ r ≡ eqb bid (price + surplus) ⌝ }
+// Whether an item is demanded where the highest surplus is `top`: it is bid for, 0 being no bid, and its surplus is the highest.
+fn demanded(bid: u16, price: u16, top: u16) -> bool
+    ensures { λ r. ⌜ r ≡ ltb 0 bid && eqb bid (price + top) ⌝ }
 {
+    if bid == 0 {
+        return false;
+    }
     if bid < price {
         return false;
     }
-    bid - price == surplus
+    bid - price == top
 }
 
 // A demand: whether null, and which items.
@@ -55,7 +59,7 @@ fn demand_of(prices: &[u16; 32], line: &[u16]) -> Demand
     let mut items: u32 = 0;
     let mut i: usize = 0;
     while i < line.len() {
-        items = round::add_item(items, i + 1, gives(line[i], prices[i], top));
+        items = round::add_item(items, i + 1, demanded(line[i], prices[i], top));
         i += 1;
     }
     Demand {

@@ -14,9 +14,8 @@ use Rattle.sets.specs.Count.{anyBelow, count}
 use Rattle.sets.proofs.Counting.{pigeonhole-strict, count-mono, not-both, and-left, and-right, and-both, any-use, any-make, least, Least}
 use Rattle.rule.proofs.Union.{Part, likes, likes-use, likes-make, sub-make}
 use Rattle.rule.proofs.Overdemand.{within, Enough}
-use Rattle.rule.proofs.Surplus.{wantsAt, wants-make}
+use Rattle.rule.proofs.Surplus.{wantsAt, wants-make, Best, some-best}
 use Rattle.rule.proofs.Furthest.{far, far-back}
-use Rattle.rule.proofs.AtPrices.{Best, some-best}
 use Rattle.least.specs.Holding.{Holds, Demands, Held}
 use Rattle.least.specs.Searching.{lineAt, reachOf, Source, Item, Search}
 use Rattle.least.specs.Falling.{Idle, HeldItem}

@@ -14,7 +14,8 @@ use Rattle.rule.specs.Sheet.{amount}
 use Rattle.rule.specs.Equilibrium.{Below}
 use Rattle.rule.proofs.Overdemand.{Enough}
 use Rattle.rule.proofs.Surplus.{wantsAt}
-use Rattle.rule.proofs.AtPrices.{bidOf, enough-of-empty, empty-of-enough}
+use Rattle.rule.proofs.Surplus.{bidOf}
+use Rattle.rule.proofs.AtPrices.{enough-of-empty, empty-of-enough}
 use Rattle.rule.proofs.Limits.{amount-null}
 use Rattle.bids.specs.Lent.{rowsOf}
 use Rattle.bids.proofs.Lent.{rows-length, row-at}

@@ -1,7 +1,7 @@
 -- Prices in 32 places: what the code computes place by place, and that only the items' places matter. Assumes nothing.
 use Prim.Native.Nat.{ℕ, zero, suc, _+_, _-_, _^_, _≤_, _<_, min}
 use mathlib.Core.Path.{_≡_, refl, sym, ap, ap₂, _∙_, fun-ext}
-use mathlib.Core.Bool.{Bool, false}
+use mathlib.Core.Bool.{Bool, false, _&&_}
 use mathlib.Core.List.{List, map}
 use mathlib.Core.Logic.{_⊎_, inl, inr}
 use native.Mathlib.Omega.{arith}
@@ -50,7 +50,7 @@ module _ (p q : List ℕ) (h : (i : ℕ) → amount p i ≡ amount q i) where
   pub demands-same : (m : ℕ) (bids : List (List ℕ)) → demands m bids p ≡ demands m bids q
   unfolding demands demand best surplusAtLeast
   demands-same m bids =
-      ap (λ (f : ℕ → ℕ). map (λ b. record { null = each m (λ j. leb (amount b j + f 0) (amount b 0 + f j)); items = setOf m (λ i. each m (λ j. leb (amount b j + f i) (amount b i + f j))) }) bids)
+      ap (λ (f : ℕ → ℕ). map (λ b. record { null = each m (λ j. leb (amount b j + f 0) (amount b 0 + f j)); items = setOf m (λ i. ltb 0 (amount b i) && each m (λ j. leb (amount b j + f i) (amount b i + f j))) }) bids)
       (fun-ext h)
 
   pub positive-same : (m : ℕ) → positive m p ≡ positive m q

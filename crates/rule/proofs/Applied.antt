@@ -17,10 +17,11 @@ use Rattle.rule.specs.Assignment.{option, holders, isAssignment, fits, A
 use Rattle.rule.specs.Equilibrium.{Below, greatest}
 use Rattle.rule.specs.Closing.{roundOf, largestRise}
 use Rattle.rule.specs.Reasons.{biddersWith, reasonOf, reasonAt, Justified}
+use Rattle.rule.specs.Former.{formerDemand, formerDemands, formerRoundAt, formerAfter, formerPath, formerReasonAt}
 
 -- the definitions that the cases compute with
 computing : Unit {0}
-unfolding allBelow anyBelow count bit isSet has setOf each any size largestBelow largest tabulate amount surplusAtLeast best demand demands wants nth bidders overdemanded weaklyUnderdemanded crowded inExcess inPositiveExcess excessDemand positiveExcessDemand excessSupply positive raise lower roundFalling round move roundAt after opening path mostRounds option holders isAssignment fits greatest biddersWith reasonOf reasonAt
+unfolding allBelow anyBelow count bit isSet has setOf each any size largestBelow largest tabulate amount surplusAtLeast best demand demands wants nth bidders overdemanded weaklyUnderdemanded crowded inExcess inPositiveExcess excessDemand positiveExcessDemand excessSupply positive raise lower roundFalling round move roundAt after opening path mostRounds option holders isAssignment fits greatest biddersWith reasonOf reasonAt formerDemand formerDemands formerRoundAt formerAfter formerPath formerReasonAt
 computing = tt
 
 -- a demand of these items alone, and one of null beside them
@@ -29,6 +30,26 @@ only s = record { null = false; items = s }
 
 abbrev pub orNull : ℕ → Demand
 orNull s = record { null = true; items = s }
+
+-- ---- demand
+
+-- K5: at price 0 a bid of 0 is no bid, and null stays
+pub zero-left-out : demand 1 (0 ∷ []) (0 ∷ []) .items ≡ 0
+unfolding computing
+zero-left-out = refl
+
+pub null-stays : demand 1 (0 ∷ []) (0 ∷ []) .null ≡ true
+unfolding computing
+null-stays = refl
+
+-- at price 0 a bid of 1 is one; at price 1 it is one beside null
+pub at-no-price : demand 1 (0 ∷ []) (1 ∷ []) .items ≡ 1
+unfolding computing
+at-no-price = refl
+
+pub at-its-bid : demand 1 (1 ∷ []) (1 ∷ []) ≡ orNull 1
+unfolding computing
+at-its-bid = refl
 
 -- ---- the sets
 
@@ -189,3 +210,25 @@ two-for-one = record { raised-more = λ e. omega arith; lowered-no-more = λ e. 
 pub two-for-two : Justified 2 2 (record { kind = 2; items = 3; bidders = 3 })
 unfolding computing
 two-for-two = record { raised-more = λ e. absurd (omega (arith, e)); lowered-no-more = λ e. omega arith }
+
+-- ---- without #102
+
+-- a bid of 0 is a bid like any other
+pub former-zero : formerDemand 1 (0 ∷ []) (0 ∷ []) .items ≡ 1
+unfolding computing
+former-zero = refl
+
+-- the path starts where the sheet does
+pub former-start : formerPath two 0 .prices ≡ 1 ∷ []
+unfolding computing
+former-start = refl
+
+-- two bidders who bid 0 for the one item at price 0: if it were an item of price above 0, S~ would have it without #102, and not with it. So that both sets are the
+-- same (`Zeros.same-positive`) is true only where the items of `above` have prices above 0
+pub only-above : positiveExcessDemand 1 1 (formerDemands 1 ((0 ∷ []) ∷ (0 ∷ []) ∷ []) (0 ∷ [])) ≡ 1
+unfolding computing
+only-above = refl
+
+pub only-above-zero : positiveExcessDemand 1 1 (demands 1 ((0 ∷ []) ∷ (0 ∷ []) ∷ []) (0 ∷ [])) ≡ 0
+unfolding computing
+only-above-zero = refl

@@ -1,7 +1,7 @@
 -- Where both sets are empty, the first assignment fits, so the prices balance; they are the least prices that do, the only ones where both sets are empty, and
 -- the assignment has the highest total. THEORY.md 2.7 to 2.10. Assumes nothing.
 use Prim.Native.Nat.{ℕ, _+_, suc, _≤_, _<_}
-use mathlib.Core.Path.{_≡_, refl, sym, _∙_, subst}
+use mathlib.Core.Path.{_≡_, refl, subst}
 use mathlib.Core.Bool.{Bool, true, false, _&&_}
 use mathlib.Core.List.{List}
 use native.Mathlib.Omega.{arith}
@@ -17,16 +17,14 @@ use Rattle.rule.specs.Demand.{demands, wants, nth}
 use Rattle.rule.specs.Excess.{excessDemand, excessSupply, positive}
 use Rattle.rule.specs.Assignment.{option, isAssignment, fits, total, NotAfter, assignment}
 use Rattle.rule.specs.Equilibrium.{Equilibrium, Below}
-pub use Rattle.rule.proofs.Limits.{amount-null}
-pub use Rattle.rule.proofs.AtPrices.{positive-is}
-use Rattle.rule.proofs.Limits.{prices-ext, below-all}
+use Rattle.rule.proofs.Limits.{amount-null, prices-ext, below-all, positive-at, positive-up}
 use Rattle.rule.proofs.Union.{Part, likes, Crowd, sub}
 use Rattle.rule.proofs.Existence.{assignment-fits}
-use Rattle.rule.proofs.Surplus.{wants-use, lowest-prices}
+use Rattle.rule.proofs.Surplus.{wants-use, bidOf, wanted, lowest-prices}
 use Rattle.rule.proofs.Total.{highest}
 use Rattle.rule.proofs.Order.{choose-first}
 use Rattle.rule.proofs.Fitting.{Fits, assigns-use, fits-use, assigns-listed}
-use Rattle.rule.proofs.AtPrices.{bidOf, wanted, wanted-is, demands-length, demands-some, demands-small, positive-at, tilde, tilde-crowd, tilde-of-empty}
+use Rattle.rule.proofs.AtPrices.{demands-wanted, demands-length, demands-some, demands-small, tilde, tilde-crowd, tilde-of-empty}
 
 -- ---- fitting, of bidders who demand by their bids
 
@@ -38,7 +36,7 @@ module _ (m : ℕ) (bids : List (List ℕ)) (p : List ℕ) (above : ℕ) (xs : L
       subst (λ (n : ℕ). Fits m n (λ b. wants (nth (demands m bids p) b)) (has above) xs) len (fits-use m above (demands m bids p) xs e) in
       record {
         assigns = f .assigns;
-        wanted = λ b l. sym (wanted-is m bids p b (option xs b) l (f .assigns .small b l)) ∙ f .wanted b l;
+        wanted = λ b l. demands-wanted m bids p b (option xs b) l (f .assigns .small b l) (f .wanted b l);
         covers = f .covers;
       }
 
@@ -46,22 +44,23 @@ module _ (m : ℕ) (bids : List (List ℕ)) (p : List ℕ) (above : ℕ) (xs : L
 
 module _ (m : ℕ) (bids : List (List ℕ)) (p : List ℕ) (above : ℕ)
     (no-excess : excessDemand m (demands m bids p) ≡ 0) (no-supply : excessSupply m above (demands m bids p) ≡ 0) where
-  -- each non-empty set of items of `above` is wanted by more bidders than it has items
-  pub crowd-above : (a : ℕ → Bool) → a 0 ≡ false → (i : ℕ) → i < suc m → a i ≡ true → Part m a (has above)
-      → count (suc m) a < count (length bids) (likes m (wanted m bids p) a)
-  unfolding Crowd Part
-  crowd-above a z i l e inside =
-      omega (
-        arith,
-        tilde-crowd m bids p above a z i l e (λ j lj q. tilde-of-empty m bids p above no-supply j lj (inside j lj q)),
-        count-mono (length bids) (λ b. likes m (wanted m bids p) a b && sub m (λ i. wanted m bids p b i && has above i) (tilde m bids p above)) (likes m (wanted m bids p) a)
-            (λ b lb q. and-left (likes m (wanted m bids p) a b) _ q),
-      )
-
   -- the first in order fits
   pub first-fits : m ≤ 32 → length bids ≤ 64 → fits m above (demands m bids p) (assignment m above (demands m bids p)) ≡ true
   first-fits lm ln =
       assignment-fits m above (demands m bids p) lm (omega (arith, demands-length m bids p)) (demands-some m bids p) (demands-small m bids p) no-excess no-supply
+
+-- each non-empty set of items of `above`, whose prices are above 0, is wanted by more bidders than it has items
+pub crowd-above : (m : ℕ) (bids : List (List ℕ)) (p : List ℕ) (above : ℕ) → ((i : ℕ) → i < suc m → has above i ≡ true → 0 < amount p i)
+    → excessSupply m above (demands m bids p) ≡ 0 → (a : ℕ → Bool) → a 0 ≡ false → (i : ℕ) → i < suc m → a i ≡ true → Part m a (has above)
+    → count (suc m) a < count (length bids) (likes m (wanted m bids p) a)
+unfolding Crowd Part
+crowd-above m bids p above up no-supply a z i l e inside =
+    omega (
+      arith,
+      tilde-crowd m bids p above up a z i l e (λ j lj q. tilde-of-empty m bids p above no-supply j lj (inside j lj q)),
+      count-mono (length bids) (λ b. likes m (wanted m bids p) a b && sub m (λ i. wanted m bids p b i && has above i) (tilde m bids p above)) (likes m (wanted m bids p) a)
+          (λ b lb q. and-left (likes m (wanted m bids p) a b) _ q),
+    )
 
 -- ---- the first in order comes before every other that fits
 
@@ -95,18 +94,17 @@ highest-total m bids p xs e ys a =
       sum-zero (length bids) (λ b. 0) (λ k l. refl),
     )
 
--- ---- prices at which both sets are empty are nowhere above prices that balance, where `above` has each item that is cheaper there
+-- ---- prices at which the falling set is empty are nowhere above prices that balance, where `above` has each item that is cheaper there
 
-module _ (m : ℕ) (bids : List (List ℕ)) (p : List ℕ) (above : ℕ)
-    (no-excess : excessDemand m (demands m bids p) ≡ 0) (no-supply : excessSupply m above (demands m bids p) ≡ 0) where
-  pub least-prices : (q : List ℕ) → ((i : ℕ) → i < suc m → amount q i < amount p i → has above i ≡ true) → Equilibrium m bids q
-      → (i : ℕ) → i < suc m → amount p i ≤ amount q i
-  unfolding Part
-  least-prices q cheaper eq =
-      let f = fits-at m bids q (positive m q) (eq .assigned) (eq .balances) in
-      lowest-prices m (length bids) (bidOf bids) (amount p) (amount q) (amount-null p)
-      (λ a z i l e less. crowd-above m bids p above no-excess no-supply a z i l e (λ j lj u. cheaper j lj (less j lj u)))
-      (option (eq .assigned)) (f .assigns .small) (f .wanted) (f .assigns .once)
+pub least-prices : (m : ℕ) (bids : List (List ℕ)) (p : List ℕ) (above : ℕ) → ((i : ℕ) → i < suc m → has above i ≡ true → 0 < amount p i)
+    → excessSupply m above (demands m bids p) ≡ 0 → (q : List ℕ) → ((i : ℕ) → i < suc m → amount q i < amount p i → has above i ≡ true)
+    → Equilibrium m bids q → (i : ℕ) → i < suc m → amount p i ≤ amount q i
+unfolding Part
+least-prices m bids p above up no-supply q cheaper eq =
+    let f = fits-at m bids q (positive m q) (eq .assigned) (eq .balances) in
+    lowest-prices m (length bids) (bidOf bids) (amount p) (amount q) (amount-null p)
+    (λ a z i l e less. crowd-above m bids p above up no-supply a z i l e (λ j lj u. cheaper j lj (less j lj u)))
+    (option (eq .assigned)) (f .assigns .small) (f .wanted) (f .assigns .once)
 
 -- ---- the closing prices of items of price 0 or more
 
@@ -119,13 +117,13 @@ module _ (m : ℕ) (bids : List (List ℕ)) (p : List ℕ) (lm : m ≤ 32) (ln :
   pub least-balance : (q : List ℕ) → Equilibrium m bids q → Below p q
   least-balance q eq =
       below-all m p q len
-      (least-prices m bids p (positive m p) no-excess no-supply q (λ i l h. positive-at m p i l (omega arith)) eq)
+      (least-prices m bids p (positive m p) (positive-up m p) no-supply q (λ i l h. positive-at m p i l (omega arith)) eq)
 
   -- and the only ones at which both sets are empty
   pub only-prices : (q : List ℕ) → length q ≡ m → excessDemand m (demands m bids q) ≡ 0 → excessSupply m (positive m q) (demands m bids q) ≡ 0 → q ≡ p
   only-prices q lq eq sq =
       prices-ext m q p lq len
       (λ i l. le-antisymm
-      (least-prices m bids q (positive m q) eq sq p (λ j lj h. positive-at m q j lj (omega arith)) balances i l)
-      (least-prices m bids p (positive m p) no-excess no-supply q (λ j lj h. positive-at m p j lj (omega arith))
+      (least-prices m bids q (positive m q) (positive-up m q) sq p (λ j lj h. positive-at m q j lj (omega arith)) balances i l)
+      (least-prices m bids p (positive m p) (positive-up m p) no-supply q (λ j lj h. positive-at m p j lj (omega arith))
       (record { assigned = assignment m (positive m q) (demands m bids q); balances = first-fits m bids q (positive m q) eq sq lm ln }) i l))

@@ -3,7 +3,7 @@
 -- does at prices: who demands nothing demands nothing outside the empty set either, and would overdemand it. So at the closing prices there is neither, and at
 -- no others, which is theorem 1 of the paper. THEORY.md 1.5 and 1.6. Assumes nothing.
 use Prim.Native.Nat.{ℕ, suc, _^_, _<_}
-use mathlib.Core.Path.{_≡_, sym, ap, _∙_}
+use mathlib.Core.Path.{_≡_, refl, sym, ap, _∙_}
 use mathlib.Core.Bool.{Bool, true, false, _&&_, not}
 use mathlib.Core.List.{List}
 use native.Mathlib.Omega.{arith}
@@ -13,15 +13,16 @@ use borrow.Author.Tests.{ltb-true, lt-ltb, le-ltb, leb-true, le-leb, eqb-true, e
 use Rattle.sets.specs.Count.{_⇒_, allBelow}
 use Rattle.sets.specs.Bit.{has, setOf, each, any, size}
 use Rattle.sets.proofs.Counting.{count-mono, and-left, and-right, and-both, imp-use, imp-make, all-use, all-make, any-use, any-make, not-both, not-is, is-false, together}
-use Rattle.sets.proofs.Members.{agree, has-zero, empty-has, none-zero, size-count}
+use Rattle.sets.proofs.Members.{agree, has-zero, none-zero, size-count}
 use Rattle.rule.specs.Sheet.{Sheet}
 use Rattle.rule.specs.Demand.{Demand, demands, wants, nth}
 use Rattle.rule.specs.Excess.{bidders, nonEmptyPart, somethingIn, nothingOutside, nothingAboveOutside, overdemanded, weaklyUnderdemanded, crowded, inExcess, excessDemand, positive, positiveExcessDemand, excessSupply}
 use Rattle.rule.specs.Closing.{demandsAt, excessDemandAt, excessSupplyAt, Closing}
 use Rattle.rule.proofs.Union.{Part, likes, likes-use, likes-make, Crowd, sub, sub-use, sub-make}
 use Rattle.rule.proofs.Tests.{CrowdOf, crowded-use, crowded-make, crowd-mono}
-use Rattle.rule.proofs.Largest.{demand-excess, demand-bound, demand-has, positive-above, positive-crowded, positive-has, positive-make, supply-has, supply-empty, supply-bound}
-use Rattle.rule.proofs.Overdemand.{Calm, Enough, enough, drawn, drawn-few}
+use Rattle.rule.proofs.Largest.{demand-excess, demand-bound, positive-above, positive-crowded, positive-has, positive-make, supply-has, supply-empty, supply-bound}
+use Rattle.rule.proofs.Overdemand.{Enough, drawn, drawn-few}
+use Rattle.rule.proofs.Wanted.{enough-of-empty}
 use Rattle.rule.proofs.AtPrices.{demands-some}
 
 -- of a crowded set s: more of the bidders who count than a non-empty part t of it has items demand something in t
@@ -37,32 +38,13 @@ part-crowded m ds counts s t i lt li ti part e =
 -- ---- definition 2
 
 module _ (m : ℕ) (ds : List Demand) where
-  abbrev wanted : ℕ → ℕ → Bool
-  wanted b = wants (nth ds b)
-
-  -- where the rising set is empty no set is in excess demand, sets being tests
-  calm-of-empty : excessDemand m ds ≡ 0 → Calm m (length ds) wanted
-  unfolding Calm CrowdOf inExcess sub Part
-  calm-of-empty e t z c i l =
-      is-false (t i) λ q.
-      let s : ℕ = setOf m t in
-      let at : (j : ℕ) → j < suc m → has s j ≡ t j = agree m t z in
-      let excess : inExcess m ds s ≡ true =
-      crowded-make m ds (nothingOutside m s) s
-      (crowd-mono m (length ds) wanted wanted (λ b. sub m (wanted b) t) (λ b. nothingOutside m s (nth ds b)) t (has s)
-      (λ b j lb lj w. w)
-      (λ b lb w. sub-make m (wanted b) (has s) (λ j lj h. at j lj ∙ sub-use m (wanted b) t w j lj h))
-      (λ j lj h. sym (at j lj) ∙ h)
-      c) in
-      not-both (has 0 i) (ap (λ (x : ℕ). has x i) (sym e) ∙ demand-has m ds s excess i l (at i l ∙ q)) (empty-has i)
-
-  -- where it is empty no set has more bidders who demand nothing else than items
+  -- where the rising set is empty no set has more bidders who demand nothing else than items
   pub not-over : ((b : ℕ) → b < length ds → (i : ℕ) × (i < suc m) × (wants (nth ds b) i ≡ true))
       → excessDemand m ds ≡ 0 → (s : ℕ) → overdemanded m ds s ≡ false
   unfolding overdemanded bidders Enough sub
   not-over some e s =
       le-ltb (size m s) (bidders ds (nothingOutside m s))
-      (omega (arith, enough m (length ds) wanted some (calm-of-empty e) (has s) (has-zero s), size-count m s))
+      (omega (arith, enough-of-empty m (length ds) (λ b. wants (nth ds b)) ds refl (λ b i lb li. refl) some e (has s) (has-zero s), size-count m s))
 
   -- where it has an item it is overdemanded itself
   pub rising-over : (i : ℕ) → i < suc m → has (excessDemand m ds) i ≡ true → overdemanded m ds (excessDemand m ds) ≡ true

@@ -14,8 +14,10 @@ use Rattle.sets.proofs.Counting.{count-less, and-left, and-right, and-both, imp
 use Rattle.sets.proofs.Members.{setOf-lt, agree, has-zero, empty-has, same-set, size-count}
 use Rattle.sets.specs.Largest.{largest}
 use Rattle.sets.proofs.Largest.{Largest, largest-is}
+use Rattle.rule.specs.Sheet.{amount}
 use Rattle.rule.specs.Demand.{Demand, wants, nth}
-use Rattle.rule.specs.Excess.{nothingAboveOutside, crowded, inExcess, inPositiveExcess, excessDemand, positiveExcessDemand, excessSupply}
+use Rattle.rule.specs.Excess.{nothingAboveOutside, crowded, inExcess, inPositiveExcess, excessDemand, positive, positiveExcessDemand, excessSupply}
+use Rattle.rule.proofs.Limits.{positive-up}
 use Rattle.rule.proofs.Union.{Part, Crowd, union}
 use Rattle.rule.proofs.Tests.{CrowdOf, crowded-use, crowded-make}
 
@@ -208,3 +210,8 @@ module _ (m above : ℕ) (ds : List Demand) where
   pub supply-bound : excessSupply m above ds < 2 ^ m
   unfolding excessSupply
   supply-bound = setOf-lt m (λ i. has above i && not (has (positiveExcessDemand m above ds) i))
+
+-- an item of the falling set has a price above 0
+pub supply-positive : (m : ℕ) (p : List ℕ) (ds : List Demand) (i : ℕ) → i < suc m → has (excessSupply m (positive m p) ds) i ≡ true → 0 < amount p i
+supply-positive m p ds i l e =
+    positive-up m p i l (and-left (has (positive m p) i) (not (has (positiveExcessDemand m (positive m p) ds) i)) (sym (supply-has m (positive m p) ds i l) ∙ e))

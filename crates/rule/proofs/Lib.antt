@@ -9,6 +9,8 @@ pub mod Profile
 pub mod Lower
 pub mod Overdemand
 pub mod Surplus
+pub mod Wanted
+pub mod Zeros
 pub mod AtPrices
 pub mod EmptySets
 pub mod Moves
@@ -25,4 +27,5 @@ pub mod Balance
 pub mod Path
 pub mod Closing
 pub mod Reasons
+pub mod Unchanged
 pub mod Refusal

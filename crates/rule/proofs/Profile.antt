@@ -96,7 +96,7 @@ module _ (m : ℕ) (ds : List Demand) (f : Demand → ℕ) (s : ℕ) (counts : D
 
 -- ---- the rising set: a bidder who demands null counts nowhere, and any other by their items
 
-active-none : (d : Demand) → d .null ≡ true → active d ≡ 0
+pub active-none : (d : Demand) → d .null ≡ true → active d ≡ 0
 unfolding active
 active-none d e = ap (λ (x : Bool). cond x 0 (d .items)) e
 

@@ -8,4 +8,5 @@ pub mod Completion
 pub mod Equilibrium
 pub mod Closing
 pub mod Reasons
+pub mod Former
 pub mod Refusal

@@ -1,9 +1,12 @@
--- `demands::demand_of` meets its contract. The items so far are those of the highest surplus. Assumes nothing.
+-- `demands::demand_of` meets its contract. The items so far are those of the highest surplus that are bid for. Assumes nothing.
 use Prim.Native.Nat.{_-_, _≤_}
 use mathlib.Core.Path.{_≡_, refl, _∙_}
+use mathlib.Core.Bool.{_&&_}
 use native.Mathlib.Omega.{arith}
+use lib.Dec.{ltb}
 use lib.ListN.{length}
 use Rattle.sets.specs.Bit.{setOf}
+use Rattle.rule.specs.Sheet.{amount}
 use Rattle.rule.specs.Demand.{best, demand}
 use Rattle.round.proofs.Adding.{add-next, add-end}
 use Rattle.demands.proofs.Surplus.{item-test, null-test}
@@ -12,7 +15,7 @@ use Rattle.demands.proofs.demand_of.Statement.{statement}
 use Rattle.demands.proofs.demand_of.Tie as tie
 
 abbrev Inv-loop : tie.InvT-loop
-Inv-loop prices line top items₀ i₀ items i = (i ≤ length line) × (items ≡ setOf i (best (length line) prices line))
+Inv-loop prices line top items₀ i₀ items i = (i ≤ length line) × (items ≡ setOf i (λ j. ltb 0 (amount line j) && best (length line) prices line j))
 
 abbrev μ-loop : tie.MeasureT-loop
 μ-loop prices line top items₀ i₀ items i = length line - i
@@ -30,20 +33,20 @@ loop-holds c = (omega arith, refl)
 add-add-item : tie.Need-add-add-item Inv-loop μ-loop
 add-add-item c = search needs
 
-mul-gives : tie.Need-mul-gives Inv-loop μ-loop
-mul-gives c = search needs
+mul-demanded : tie.Need-mul-demanded Inv-loop μ-loop
+mul-demanded c = search needs
 
-shared-slice-read-gives : tie.Need-shared-slice-read-gives Inv-loop μ-loop
-shared-slice-read-gives c = search needs
+shared-slice-read-demanded : tie.Need-shared-slice-read-demanded Inv-loop μ-loop
+shared-slice-read-demanded c = search needs
 
-mul-gives-2 : tie.Need-mul-gives-2 Inv-loop μ-loop
-mul-gives-2 c = search needs
+mul-demanded-2 : tie.Need-mul-demanded-2 Inv-loop μ-loop
+mul-demanded-2 c = search needs
 
-element-copy-out-gives : tie.Need-element-copy-out-gives Inv-loop μ-loop
-element-copy-out-gives c = search needs
+element-copy-out-demanded : tie.Need-element-copy-out-demanded Inv-loop μ-loop
+element-copy-out-demanded c = search needs
 
-gives-requires : tie.Need-gives-requires Inv-loop μ-loop
-gives-requires c κs = search needs
+demanded-requires : tie.Need-demanded-requires Inv-loop μ-loop
+demanded-requires c κs = search needs
 
 add-item-requires : tie.Need-add-item-requires Inv-loop μ-loop
 add-item-requires c κs = search needs
@@ -61,8 +64,8 @@ loop-again c =
     let at = c .before .before .before .before .before .loop in
     let lt = c .before .before .before .before .loop-test .taken in (
       omega (arith, lt),
-      add-next 32 (best (length (a .line .now)) (a .prices .now) (a .line .now)) (at .i) (omega (arith, lt, c .before .before .before .before .before .before .before .before .before .pre)) (at .items) (c .before .gives .result) (c .add-item .result) (at .inv .1)
-          (c .before .gives .ensures ∙ item-test (length (a .line .now)) (a .prices .now) (a .line .now) (top .result) (top .ensures) (at .i) lt) (c .add-item .ensures),
+      add-next 32 (λ j. ltb 0 (amount (a .line .now) j) && best (length (a .line .now)) (a .prices .now) (a .line .now) j) (at .i) (omega (arith, lt, c .before .before .before .before .before .before .before .before .before .pre)) (at .items) (c .before .demanded .result) (c .add-item .result) (at .inv .1)
+          (c .before .demanded .ensures ∙ item-test (length (a .line .now)) (a .prices .now) (a .line .now) (top .result) (top .ensures) (at .i) lt) (c .add-item .ensures),
     )
 
 returns-2 : tie.Need-returns-2 Inv-loop μ-loop
@@ -72,7 +75,7 @@ returns-2 c =
     let top = c .before .before .highest in
     let at = c .before .loop in (
       null-test (length (a .line .now)) (a .prices .now) (a .line .now) (top .result) (top .ensures),
-      add-end (best (length (a .line .now)) (a .prices .now) (a .line .now)) (at .i) (length (a .line .now)) (at .items) (at .inv .1) (at .inv .0) (c .loop-test .left),
+      add-end (λ j. ltb 0 (amount (a .line .now) j) && best (length (a .line .now)) (a .prices .now) (a .line .now) j) (at .i) (length (a .line .now)) (at .items) (at .inv .1) (at .inv .0) (c .loop-test .left),
     )
 
 pub demand-of-spec : {M : Type 1} → statement M
@@ -85,11 +88,11 @@ demand-of-spec =
     highest-requires
     loop-holds
     add-add-item
-    mul-gives
-    shared-slice-read-gives
-    mul-gives-2
-    element-copy-out-gives
-    gives-requires
+    mul-demanded
+    shared-slice-read-demanded
+    mul-demanded-2
+    element-copy-out-demanded
+    demanded-requires
     add-item-requires
     add-i
     loop-less
