@@ -48,7 +48,8 @@ fn amount(cell: &str, line: usize, column: usize) -> Result<u16, Fault> {
     let bare = bare.strip_prefix('"').and_then(|c| c.strip_suffix('"')).unwrap_or(bare).trim();
     let what = if line == 1 { "starting rent" } else { "bid" };
     if bare.is_empty() {
-        return fault(line, column, format!("no {what}: write 0 for none"));
+        let mend = if line == 1 { "write 0 for none" } else { "write one, or 0: does not want this pan" };
+        return fault(line, column, format!("no {what}: {mend}"));
     }
     if !bare.bytes().all(|b| b.is_ascii_digit()) {
         return fault(line, column, format!("'{}' is no {what}: whole crowns are wanted, digits only", named(bare)));

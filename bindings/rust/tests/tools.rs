@@ -110,7 +110,7 @@ fn what_is_wrong_with_a_table_is_named() {
         ("4,4\n", "line 2, column 1: no raker: one row a raker follows the starting rents"),
         ("4,4\n2\n", "line 2, column 2: a bid is missing: the first row has 2 pans"),
         ("4,4\n2,6,1\n", "line 2, column 3: the first row has no pan here"),
-        ("4,4\n2,\n", "line 2, column 2: no bid: write 0 for none"),
+        ("4,4\n2,\n", "line 2, column 2: no bid: write one, or 0: does not want this pan"),
         (",4\n2,6\n", "line 1, column 1: no starting rent: write 0 for none"),
         ("4,4\n2,x\n", "line 2, column 2: 'x' is no bid: whole crowns are wanted, digits only"),
         ("4,4\n2,-6\n", "line 2, column 2: '-6' is no bid: whole crowns are wanted, digits only"),

@@ -31,9 +31,9 @@ computing : Unit {0}
 unfolding anyBelow tabulate first badItems badBidders anyOver digitValue digitAt numberAt closingLength numbersAt endsAt lineAt lineOf rowsOf sheetOf itemsIn biddersIn bidsAt readSheet itemsOf biddersOf bidSheetOf sheetRefusal sheetIn
 computing = tt
 
--- the lines 01010001 and 0000
+-- the lines 01010001 and 0001
 abbrev oneBytes : List ℕ
-oneBytes = 48 ∷ 49 ∷ 48 ∷ 49 ∷ 48 ∷ 48 ∷ 48 ∷ 49 ∷ 10 ∷ 48 ∷ 48 ∷ 48 ∷ 48 ∷ 10 ∷ []
+oneBytes = 48 ∷ 49 ∷ 48 ∷ 49 ∷ 48 ∷ 48 ∷ 48 ∷ 49 ∷ 10 ∷ 48 ∷ 48 ∷ 48 ∷ 49 ∷ 10 ∷ []
 
 pub says : sheetIn oneBytes ≡ one
 unfolding computing

@@ -6,3 +6,4 @@ pub mod Along
 pub mod Fitting
 pub mod Answers
 pub mod ReadBack
+pub mod Unchanged

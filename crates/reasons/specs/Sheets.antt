@@ -12,6 +12,7 @@ use Rattle.lines.specs.Lines.{newline, joined, numberLine}
 use Rattle.lines.specs.Reading.{endsAt}
 use Rattle.rule.specs.Sheet.{Sheet}
 use Rattle.rule.specs.Reasons.{Reason, reasonAt, roundCount}
+use Rattle.rule.specs.Former.{formerClose, formerReasonAt}
 use Rattle.sheet.specs.Close.{byNumber}
 use Rattle.sheet.specs.Contents.{bidSheetRefusal}
 use Rattle.sheet.specs.Accepted.{sheetIn}
@@ -23,6 +24,10 @@ reasonLine number r = hex 4 number ++ hex 2 (r .kind) ++ hex 8 (r .items) ++ hex
 -- a line for each round of a sheet's path to its close, the first being round 1
 unfoldable pub reasonSheet : Sheet → List ℕ
 reasonSheet s = joined (roundCount s) λ k. reasonLine (k + 1) (reasonAt s k)
+
+-- the same without #102 of document 02, where a bid of 0 is a bid like any other
+unfoldable pub formerReasonSheet : Sheet → List ℕ
+formerReasonSheet s = joined (formerClose s .ups + formerClose s .downs) λ k. reasonLine (k + 1) (formerReasonAt s k)
 
 -- the whole answer to a bid sheet: its sheet of reasons, or the line of the number that turns it down
 unfoldable pub reasonsIn : List ℕ → List ℕ

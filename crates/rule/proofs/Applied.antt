@@ -17,11 +17,11 @@ use Rattle.rule.specs.Assignment.{option, holders, isAssignment, fits, A
 use Rattle.rule.specs.Equilibrium.{Below, greatest}
 use Rattle.rule.specs.Closing.{roundOf, largestRise}
 use Rattle.rule.specs.Reasons.{biddersWith, reasonOf, reasonAt, Justified}
-use Rattle.rule.specs.Former.{formerDemand, formerDemands, formerRoundAt, formerAfter, formerPath, formerReasonAt}
+use Rattle.rule.specs.Former.{formerDemand, formerDemands, formerRoundAt, formerAfter, formerPath, FormerEquilibrium}
 
 -- the definitions that the cases compute with
 computing : Unit {0}
-unfolding allBelow anyBelow count bit isSet has setOf each any size largestBelow largest tabulate amount surplusAtLeast best demand demands wants nth bidders overdemanded weaklyUnderdemanded crowded inExcess inPositiveExcess excessDemand positiveExcessDemand excessSupply positive raise lower roundFalling round move roundAt after opening path mostRounds option holders isAssignment fits greatest biddersWith reasonOf reasonAt formerDemand formerDemands formerRoundAt formerAfter formerPath formerReasonAt
+unfolding allBelow anyBelow count bit isSet has setOf each any size largestBelow largest tabulate amount surplusAtLeast best demand demands wants nth bidders overdemanded weaklyUnderdemanded crowded inExcess inPositiveExcess excessDemand positiveExcessDemand excessSupply positive raise lower roundFalling round move roundAt after opening path mostRounds option holders isAssignment fits greatest biddersWith reasonOf reasonAt formerDemand formerDemands formerRoundAt formerAfter formerPath
 computing = tt
 
 -- a demand of these items alone, and one of null beside them
@@ -222,6 +222,11 @@ former-zero = refl
 pub former-start : formerPath two 0 .prices ≡ 1 ∷ []
 unfolding computing
 former-start = refl
+
+-- K5 balanced with the item named
+pub former-named : FormerEquilibrium 1 ((0 ∷ []) ∷ []) (0 ∷ [])
+unfolding computing
+former-named = record { assigned = 1 ∷ []; balances = refl }
 
 -- two bidders who bid 0 for the one item at price 0: if it were an item of price above 0, S~ would have it without #102, and not with it. So that both sets are the
 -- same (`Zeros.same-positive`) is true only where the items of `above` have prices above 0

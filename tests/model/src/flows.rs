@@ -4,7 +4,7 @@
 use crate::{Closing, Kind, Round, Sheet};
 use std::collections::VecDeque;
 
-/// What a bidder demands: the items of the highest surplus, and null if that is 0.
+/// What a bidder demands: the items of the highest surplus that are bid for, and null if that surplus is 0.
 #[derive(Clone, Copy, Debug, Default, PartialEq, Eq)]
 pub struct Demand {
     pub null: bool,
@@ -21,7 +21,7 @@ pub fn demand(line: &[u16], prices: &[u16]) -> Demand {
             best = surplus;
             demand = Demand { null: false, items: 0 };
         }
-        if surplus == best {
+        if surplus == best && bid > 0 {
             demand.items |= 1 << i;
         }
     }

@@ -1,4 +1,4 @@
-//! Document 01's rule to the letter. Options are bits: bit 0 is null, bit i is item i. Every set is tried, and every part of it,
+//! Document 01's rule to the letter, with document 02's word on zeros. Options are bits: bit 0 is null, bit i is item i. Every set is tried, and every part of it,
 //! so this is for a handful of items and bidders.
 
 use crate::{Closing, Kind, Round, Sheet};
@@ -14,15 +14,24 @@ pub fn surplus(line: &[u16], prices: &[u16], option: usize) -> i32 {
     line[option - 1] as i32 - prices[option - 1] as i32
 }
 
-/// Every option, null included, of the highest surplus.
-pub fn demand(line: &[u16], prices: &[u16]) -> Options {
+/// Document 01's demand: every option, null included, of the highest surplus.
+pub fn former_demand(line: &[u16], prices: &[u16]) -> Options {
     let options = 0..=line.len();
     let is_highest = |&o: &usize| options.clone().all(|p| surplus(line, prices, p) <= surplus(line, prices, o));
     options.clone().filter(is_highest).map(|o| 1 << o).sum()
 }
 
+/// Document 02's, #102: an item with bid 0 is never in it.
+pub fn demand(line: &[u16], prices: &[u16]) -> Options {
+    let not_bid_for: Options = (1..=line.len()).filter(|&i| line[i - 1] == 0).map(|i| 1 << i).sum();
+    former_demand(line, prices) & !not_bid_for
+}
+
+/// What a bidder demands: by the bids and the prices.
+pub type Demand = fn(&[u16], &[u16]) -> Options;
+
 /// The demands of all bidders.
-pub fn demands(sheet: &Sheet, prices: &[u16]) -> Vec<Options> {
+pub fn demands(sheet: &Sheet, prices: &[u16], demand: Demand) -> Vec<Options> {
     (1..=sheet.bidders).map(|b| demand(sheet.line(b), prices)).collect()
 }
 
@@ -58,7 +67,8 @@ fn items(count: usize) -> Options {
     (1..=count).map(|i| 1 << i).sum()
 }
 
-fn above_zero(prices: &[u16]) -> Options {
+/// The items of price above 0.
+pub fn above_zero(prices: &[u16]) -> Options {
     (1..=prices.len()).filter(|&i| prices[i - 1] > 0).map(|i| 1 << i).sum()
 }
 
@@ -80,11 +90,16 @@ fn moved(prices: &[u16], set: Options, by: i32) -> Vec<u16> {
 
 /// Rising first; the turn is when the rising set is first empty; from then on falling, until that set is empty.
 pub fn path(sheet: &Sheet) -> Vec<Round> {
+    path_by(sheet, demand)
+}
+
+/// The same by any demand.
+pub fn path_by(sheet: &Sheet, demand: Demand) -> Vec<Round> {
     let mut rounds = Vec::new();
     let mut prices = sheet.start.clone();
     for kind in [Kind::Raised, Kind::Lowered] {
         loop {
-            let demands = demands(sheet, &prices);
+            let demands = demands(sheet, &prices, demand);
             let (set, by) = match kind {
                 Kind::Raised => (rising(sheet.items, &demands), 1),
                 Kind::Lowered => (falling(&prices, &demands), -1),
@@ -127,7 +142,7 @@ pub fn first_assignment(count: usize, demands: &[Options], must: Options) -> Opt
 pub fn close(sheet: &Sheet) -> Closing {
     let path = path(sheet);
     let prices = path.last().map_or(sheet.start.clone(), |r| r.prices.clone());
-    let demands = demands(sheet, &prices);
+    let demands = demands(sheet, &prices, demand);
     let names = first_assignment(sheet.items, &demands, above_zero(&prices)).expect("some assignment fits at the close");
     let count = |kind| path.iter().filter(|r| r.kind == kind).count() as u32;
     Closing { raised: count(Kind::Raised), lowered: count(Kind::Lowered), prices, names }

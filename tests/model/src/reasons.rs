@@ -1,7 +1,7 @@
 //! The sheet of reasons of document 02, #101: for every round of a path its kind, its items, and the bidders for whose demands it moves.
-//! A bidder is looked at option by option, from the sentences of the request.
+//! A bidder's demand is taken from the letter.
 
-use crate::literal::surplus;
+use crate::literal::{demand, Demand, Options};
 use crate::{flows, sealed_refusal, sheet, Kind, Round, Sheet};
 
 /// Why a round moved its items: bit i − 1 for item i, bit k − 1 for bidder k.
@@ -13,26 +13,29 @@ pub struct Reason {
 }
 
 /// For a rise the bidders who want only items of the set, for a fall those who want some item of it. Null is in no set.
-fn concerned(kind: Kind, set: u32, line: &[u16], prices: &[u16]) -> bool {
-    let best = (0..=line.len()).map(|o| surplus(line, prices, o)).max();
-    let mut wanted = (0..=line.len()).filter(|&o| Some(surplus(line, prices, o)) == best);
-    let in_set = |o: usize| o > 0 && set >> (o - 1) & 1 == 1;
+fn concerned(kind: Kind, items: u32, wanted: Options) -> bool {
+    let set = Options::from(items) << 1;
     match kind {
-        Kind::Raised => wanted.all(in_set),
-        Kind::Lowered => wanted.any(in_set),
+        Kind::Raised => wanted & !set == 0,
+        Kind::Lowered => wanted & set != 0,
     }
 }
 
 /// The reason of a round at the prices before it.
-pub fn reason(s: &Sheet, prices: &[u16], kind: Kind, items: u32) -> Reason {
-    let bidders = (1..=s.bidders).filter(|&b| concerned(kind, items, s.line(b), prices)).map(|b| 1 << (b - 1)).sum();
-    Reason { kind, items, bidders }
+pub fn reason(s: &Sheet, prices: &[u16], kind: Kind, items: u32, demand: Demand) -> Reason {
+    let counts = |&b: &usize| concerned(kind, items, demand(s.line(b), prices));
+    Reason { kind, items, bidders: (1..=s.bidders).filter(counts).map(|b| 1 << (b - 1)).sum() }
 }
 
 /// The reasons of a path.
 pub fn along(s: &Sheet, path: &[Round]) -> Vec<Reason> {
+    along_by(s, path, demand)
+}
+
+/// The same by any demand.
+pub fn along_by(s: &Sheet, path: &[Round], demand: Demand) -> Vec<Reason> {
     let before = std::iter::once(&s.start).chain(path.iter().map(|r| &r.prices));
-    path.iter().zip(before).map(|(r, prices)| reason(s, prices, r.kind, r.items)).collect()
+    path.iter().zip(before).map(|(r, prices)| reason(s, prices, r.kind, r.items, demand)).collect()
 }
 
 /// The lines of a sheet of reasons.

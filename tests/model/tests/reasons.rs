@@ -77,6 +77,6 @@ fn by_the_letter_too() {
 #[test]
 fn before_the_round() {
     let s = model::Sheet::new(&[0], &[&[1], &[2]]);
-    assert_eq!(reason(&s, &[0], Kind::Raised, 1).bidders, 0b11);
-    assert_eq!(reason(&s, &[1], Kind::Raised, 1).bidders, 0b10);
+    assert_eq!(reason(&s, &[0], Kind::Raised, 1, literal::demand).bidders, 0b11);
+    assert_eq!(reason(&s, &[1], Kind::Raised, 1, literal::demand).bidders, 0b10);
 }

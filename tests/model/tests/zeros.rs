@@ -1,0 +1,86 @@
+//! Document 02, #102: a zero is no bid. Prices, rounds, reasons and the prices that balance are those of document 01's demand; names are not.
+
+use model::generate::{sheet, Shape, SHAPES};
+use model::literal::{above_zero, close, demand, demands, first_assignment, former_demand, path, path_by, Demand};
+use model::random::Random;
+use model::reasons::{along, along_by};
+use model::{flows, Sheet};
+
+/// A sheet of at most 3 by 4 with low amounts, most of its bids 0.
+fn small(r: &mut Random) -> Sheet {
+    let (items, bidders, top) = (r.within(1, 3), r.within(1, 4), r.within(1, 3) as u16);
+    let start = (0..items).map(|_| r.amount(top)).collect();
+    let bids = (0..items * bidders).map(|_| if r.one_in(2) { 0 } else { r.amount(top) }).collect();
+    Sheet { items, bidders, start, bids }
+}
+
+/// An item with bid 0 is in no demand, and every demand has something.
+#[test]
+fn never_demanded() {
+    let mut r = Random::new(201);
+    let mut dropped = 0;
+    for _ in 0..20_000 {
+        let items = r.within(1, 6);
+        let [line, prices] = [(); 2].map(|()| (0..items).map(|_| r.amount(2)).collect::<Vec<_>>());
+        let (now, before) = (demand(&line, &prices), former_demand(&line, &prices));
+        assert!(now != 0 && (1..=items).all(|i| line[i - 1] > 0 || now >> i & 1 == 0), "{line:?} at {prices:?}");
+        assert!((1..=items).all(|i| line[i - 1] == 0 || now >> i & 1 == before >> i & 1) && now & 1 == before & 1);
+        dropped += usize::from(now != before);
+    }
+    assert!(dropped > 2_000, "{dropped}");
+}
+
+/// Rounds and reasons are what they were, on sheets with many zeros; some names are not.
+#[test]
+fn rounds_and_reasons_stay() {
+    let mut r = Random::new(202);
+    let mut renamed = 0;
+    for _ in 0..4_000 {
+        let s = small(&mut r);
+        let (now, before) = (path(&s), path_by(&s, former_demand));
+        assert_eq!(now, before, "{s:?}");
+        assert_eq!(along(&s, &now), along_by(&s, &before, former_demand), "{s:?}");
+        let closing = close(&s);
+        let former = first_assignment(s.items, &demands(&s, &closing.prices, former_demand), above_zero(&closing.prices));
+        renamed += usize::from(former != Some(closing.names.clone()));
+        let bid_for = |(b, &i): (usize, &u8)| i == 0 || s.line(b + 1)[i as usize - 1] > 0;
+        assert!(closing.names.iter().enumerate().all(bid_for), "{s:?}: {closing:?}");
+    }
+    assert!(renamed > 500, "{renamed}");
+}
+
+/// And on sheets of every kind and size: reasons by both demands along one path.
+#[test]
+fn reasons_stay_on_every_kind() {
+    let mut r = Random::new(203);
+    for k in 0..900 {
+        let shape = SHAPES[k % (SHAPES.len() - 1)];
+        let s = sheet(if k % 2 == 0 { Shape::Zeros } else { shape }, &mut r);
+        let path = flows::path(&s);
+        assert_eq!(along(&s, &path), along_by(&s, &path, former_demand), "{s:?}");
+    }
+}
+
+/// Whether these prices balance by this demand: every assignment is tried.
+fn balance(s: &Sheet, prices: &[u16], demand: Demand) -> bool {
+    first_assignment(s.items, &demands(s, prices, demand), above_zero(prices)).is_some()
+}
+
+/// Of all prices up to one above the highest bid, the same ones balance.
+#[test]
+fn the_same_prices_balance() {
+    let mut r = Random::new(204);
+    let mut balanced = 0;
+    for _ in 0..600 {
+        let s = small(&mut r);
+        let most = s.bids.iter().max().map_or(1, |b| b + 2);
+        for k in 0..u32::from(most).pow(s.items as u32) {
+            let digit = |i: usize| (k / u32::from(most).pow(i as u32) % u32::from(most)) as u16;
+            let prices: Vec<u16> = (0..s.items).map(digit).collect();
+            let now = balance(&s, &prices, demand);
+            assert_eq!(now, balance(&s, &prices, former_demand), "{s:?} at {prices:?}");
+            balanced += usize::from(now);
+        }
+    }
+    assert!(balanced > 1_000, "{balanced}");
+}
