@@ -91,7 +91,7 @@ pub fn demands(prices: &[u16; 32], bids: &[u16], items: usize) -> Demands {
         let surplus = |(&bid, &price): (&u16, &u16)| i32::from(bid) - i32::from(price);
         let highest = line.iter().zip(prices).map(surplus).max().unwrap_or(0).max(0);
         for (i, pair) in line.iter().zip(prices).enumerate() {
-            all.items[b] |= u32::from(*pair.0 > 0 && surplus(pair) == highest) << i;
+            all.items[b] |= u32::from((*pair.0 > 0) & (surplus(pair) == highest)) << i;
         }
         all.nulls |= u64::from(highest == 0) << b;
     }

@@ -255,7 +255,7 @@ fn demands(prices: &[i16; 64], table: &Table, bidders: usize) -> Demands {
         }
         let mut set = [0; 32];
         for x in 0..line.len().min(32) {
-            set[x] = if line[x] > 0 && line[x] - prices[x] == highest { BITS[x] } else { 0 };
+            set[x] = if (line[x] > 0) & (line[x] - prices[x] == highest) { BITS[x] } else { 0 };
         }
         let half = |k: usize| set[k..k + 16].iter().fold(0, |s, bit| s | bit);
         all.items[b] = u32::from(half(16)) << 16 | u32::from(half(0));

@@ -1,7 +1,7 @@
 -- Where both sets are empty, the first assignment fits, so the prices balance; they are the least prices that do, the only ones where both sets are empty, and
 -- the assignment has the highest total. THEORY.md 2.7 to 2.10. Assumes nothing.
 use Prim.Native.Nat.{ℕ, _+_, suc, _≤_, _<_}
-use mathlib.Core.Path.{_≡_, refl, subst}
+use mathlib.Core.Path.{_≡_, refl, sym, ap, _∙_}
 use mathlib.Core.Bool.{Bool, true, false, _&&_}
 use mathlib.Core.List.{List}
 use native.Mathlib.Omega.{arith}
@@ -12,8 +12,8 @@ use Rattle.sets.specs.Bit.{has}
 use Rattle.sets.specs.Sum.{sum}
 use Rattle.sets.proofs.Counting.{count-mono, and-left}
 use Rattle.sets.proofs.Sums.{sum-zero}
-use Rattle.rule.specs.Sheet.{amount}
-use Rattle.rule.specs.Demand.{demands, wants, nth}
+use Rattle.rule.specs.Sheet.{amount, row}
+use Rattle.rule.specs.Demand.{Demand, demands, wants}
 use Rattle.rule.specs.Excess.{excessDemand, excessSupply, positive}
 use Rattle.rule.specs.Assignment.{option, isAssignment, fits, total, NotAfter, assignment}
 use Rattle.rule.specs.Equilibrium.{Equilibrium, Below}
@@ -23,22 +23,24 @@ use Rattle.rule.proofs.Existence.{assignment-fits}
 use Rattle.rule.proofs.Surplus.{wants-use, bidOf, wanted, lowest-prices}
 use Rattle.rule.proofs.Total.{highest}
 use Rattle.rule.proofs.Order.{choose-first}
-use Rattle.rule.proofs.Fitting.{Fits, assigns-use, fits-use, assigns-listed}
-use Rattle.rule.proofs.AtPrices.{demands-wanted, demands-length, demands-some, demands-small, tilde, tilde-crowd, tilde-of-empty}
+use Rattle.rule.proofs.Fitting.{Fits, assigns-use, fits-use, fits-to, assigns-listed}
+use Rattle.rule.proofs.Zeros.{demanded-bid}
+use Rattle.rule.proofs.AtPrices.{nth-demands, demands-wanted, demands-length, demands-some, demands-small, tilde, tilde-crowd, tilde-of-empty}
 
 -- ---- fitting, of bidders who demand by their bids
 
 module _ (m : ℕ) (bids : List (List ℕ)) (p : List ℕ) (above : ℕ) (xs : List ℕ) where
   pub fits-at : fits m above (demands m bids p) xs ≡ true → Fits m (length bids) (wanted m bids p) (has above) xs
-  fits-at e =
-      let len = demands-length m bids p in
-      let f : Fits m (length bids) (λ b. wants (nth (demands m bids p) b)) (has above) xs =
-      subst (λ (n : ℕ). Fits m n (λ b. wants (nth (demands m bids p) b)) (has above) xs) len (fits-use m above (demands m bids p) xs e) in
-      record {
-        assigns = f .assigns;
-        wanted = λ b l. demands-wanted m bids p b (option xs b) l (f .assigns .small b l) (f .wanted b l);
-        covers = f .covers;
-      }
+  fits-at = fits-to m (length bids) above (demands m bids p) (demands-length m bids p) (wanted m bids p) xs (demands-wanted m bids p)
+
+-- who has an item has bid for it
+pub named-bid : (m above : ℕ) (bids : List (List ℕ)) (p xs : List ℕ) → fits m above (demands m bids p) xs ≡ true
+    → (b : ℕ) → b < length bids → 0 < option xs b → 0 < amount (row bids b) (option xs b)
+named-bid m above bids p xs e b l pos =
+    let f = fits-use m above (demands m bids p) xs e in
+    let lb : b < length (demands m bids p) = omega (arith, l, demands-length m bids p) in
+    demanded-bid m p (row bids b) (option xs b) (f .assigns .small b lb) pos
+    (sym (ap (λ (d : Demand). wants d (option xs b)) (nth-demands m bids p b l)) ∙ f .wanted b lb)
 
 -- ---- where both sets are empty
 

@@ -1,6 +1,6 @@
 -- What it says, bidder by bidder, that a list of options is an assignment, and that it fits. THEORY.md 2.9. Assumes nothing.
 use Prim.Native.Nat.{ℕ, zero, suc, _≤_, _<_}
-use mathlib.Core.Path.{_≡_, refl, sym}
+use mathlib.Core.Path.{_≡_, refl, sym, subst}
 use mathlib.Core.Bool.{Bool, true, _&&_}
 use mathlib.Core.List.{List, [], _∷_}
 use native.Mathlib.Omega.{arith}
@@ -99,6 +99,19 @@ module _ (m above : ℕ) (ds : List Demand) (xs : List ℕ) where
       (λ k l. imp-make (has above (suc k)) _
       (λ u. let w = f .covers (suc k) (omega arith) u in
       le-leb 1 _ (count-pos (length xs) (λ b. eqb (option xs b) (suc k)) (w .0) (omega (arith, w .1, f .assigns .all)) (eq-eqb (option xs (w .0)) (suc k) (w .2))))))
+
+-- what n bidders demand, by a test d of each bidder's options
+module _ (m n above : ℕ) (ds : List Demand) (count-is : length ds ≡ n) (d : ℕ → ℕ → Bool) (xs : List ℕ) where
+  pub fits-to : ((b i : ℕ) → b < n → i < suc m → wants (nth ds b) i ≡ true → d b i ≡ true) → fits m above ds xs ≡ true → Fits m n d (has above) xs
+  fits-to is e =
+      let f = subst (λ (k : ℕ). Fits m k (λ b. wants (nth ds b)) (has above) xs) count-is (fits-use m above ds xs e) in
+      record { assigns = f .assigns; wanted = λ b l. is b (option xs b) l (f .assigns .small b l) (f .wanted b l); covers = f .covers }
+
+  pub fits-from : ((b i : ℕ) → b < n → i < suc m → d b i ≡ true → wants (nth ds b) i ≡ true) → Fits m n d (has above) xs → fits m above ds xs ≡ true
+  fits-from is f =
+      fits-make m above ds xs
+      (subst (λ (k : ℕ). Fits m k (λ b. wants (nth ds b)) (has above) xs) (sym count-is)
+      (record { assigns = f .assigns; wanted = λ b l. is b (option xs b) l (f .assigns .small b l) (f .wanted b l); covers = f .covers }))
 
 -- ---- a list from a function
 

@@ -24,6 +24,7 @@ pub mod Asking
 pub mod Existence
 pub mod Total
 pub mod Balance
+pub mod SameBalance
 pub mod Path
 pub mod Closing
 pub mod Reasons

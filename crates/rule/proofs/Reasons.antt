@@ -77,7 +77,7 @@ module _ (m above : ℕ) (ds : List Demand) where
   none-justified = record { raised-more = λ e. absurd (omega (arith, e)); lowered-no-more = λ e. absurd (omega (arith, e)) }
 
   -- what holds of the rising set raised, of the falling set lowered and of a close holds of every round
-  of-each : (P : Round → Type 0) → ((excessDemand m ds ≡ 0 → ⊥) → P (raised (excessDemand m ds)))
+  pub of-each : (P : Round → Type 0) → ((excessDemand m ds ≡ 0 → ⊥) → P (raised (excessDemand m ds)))
       → ((excessSupply m above ds ≡ 0 → ⊥) → P (lowered (excessSupply m above ds))) → P closed → (ph : Phase) → P (round m above ds ph)
   of-each P up down none ph = go (does m above ds ph)
     where

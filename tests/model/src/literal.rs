@@ -16,9 +16,8 @@ pub fn surplus(line: &[u16], prices: &[u16], option: usize) -> i32 {
 
 /// Document 01's demand: every option, null included, of the highest surplus.
 pub fn former_demand(line: &[u16], prices: &[u16]) -> Options {
-    let options = 0..=line.len();
-    let is_highest = |&o: &usize| options.clone().all(|p| surplus(line, prices, p) <= surplus(line, prices, o));
-    options.clone().filter(is_highest).map(|o| 1 << o).sum()
+    let highest = (0..=line.len()).map(|o| surplus(line, prices, o)).max();
+    (0..=line.len()).filter(|&o| Some(surplus(line, prices, o)) == highest).map(|o| 1 << o).sum()
 }
 
 /// Document 02's, #102: an item with bid 0 is never in it.
