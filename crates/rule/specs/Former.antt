@@ -14,14 +14,15 @@ use Rattle.rule.specs.Equilibrium.{Equilibrium}
 use Rattle.rule.specs.Closing.{roundOf}
 use Rattle.rule.specs.Reasons.{Reason, reasonOf, reasonAt}
 
--- every item, with null included, of the highest surplus. The paper's D_b(p)
+-- a bidder's demand: every option, null included, of the highest surplus. The paper's D_b(p)
 unfoldable pub formerDemand : ℕ → List ℕ → List ℕ → Demand
 formerDemand m prices bids = record { null = best m prices bids 0; items = setOf m (best m prices bids) }
 
+-- every bidder's demand
 unfoldable pub formerDemands : ℕ → List (List ℕ) → List ℕ → List Demand
 formerDemands m bids prices = map (formerDemand m prices) bids
 
--- ---- a round, the path and the close by them
+-- ---- by these demands: a round, k rounds, a sheet's path, what its round k + 1 does, its close
 
 unfoldable pub formerRoundAt : ℕ → List (List ℕ) → State → Round
 formerRoundAt m bids s = round m (positive m (s .prices)) (formerDemands m bids (s .prices)) (s .phase)
@@ -39,7 +40,7 @@ formerRoundOf s k = formerRoundAt (s .items) (s .bids) (formerPath s k)
 unfoldable pub formerClose : Sheet → State
 formerClose s = formerPath s mostRounds
 
--- ---- reasons and prices that balance by them
+-- ---- the reason of round k + 1, and prices that balance
 
 unfoldable pub formerReasonAt : Sheet → ℕ → Reason
 formerReasonAt s k = reasonOf (s .items) (formerDemands (s .items) (s .bids) (formerPath s k .prices)) (formerRoundOf s k)
