@@ -44,7 +44,7 @@ module _ (m : ℕ) (ds : List Demand) where
   unfolding overdemanded bidders Enough sub
   not-over some e s =
       le-ltb (size m s) (bidders ds (nothingOutside m s))
-      (omega (arith, enough-of-empty m (length ds) (λ b. wants (nth ds b)) ds refl (λ b i lb li. refl) some e (has s) (has-zero s), size-count m s))
+      (omega (arith, enough-of-empty {wanted = λ b. wants (nth ds b)} (record { count-is = refl; wanted-is = λ b i lb li. refl }) some e (has s) (has-zero s), size-count m s))
 
   -- where it has an item it is overdemanded itself
   pub rising-over : (i : ℕ) → i < suc m → has (excessDemand m ds) i ≡ true → overdemanded m ds (excessDemand m ds) ≡ true

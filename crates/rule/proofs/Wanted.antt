@@ -16,9 +16,12 @@ use Rattle.rule.proofs.Overdemand.{within, Calm, Enough, enough, calm}
 use Rattle.rule.proofs.Tests.{CrowdOf, crowded-use, crowded-make, crowd-mono}
 use Rattle.rule.proofs.Largest.{demand-excess, demand-bound, demand-has, positive-crowded, positive-has, positive-make}
 
--- n bidders, of whom b demands the options that `wanted b` passes
-module _ (m n : ℕ) (wanted : ℕ → ℕ → Bool) (ds : List Demand) (count-is : length ds ≡ n)
-    (wanted-is : (b i : ℕ) → b < n → i < suc m → wants (nth ds b) i ≡ wanted b i) where
+-- the demands of n bidders, of whom b demands the options that `wanted b` passes
+pub record ByTest (m n : ℕ) (wanted : ℕ → ℕ → Bool) (ds : List Demand) : Type 0 where
+  pub count-is : length ds ≡ n
+  pub wanted-is : (b i : ℕ) → b < n → i < suc m → wants (nth ds b) i ≡ wanted b i
+
+module _ {m n : ℕ} {wanted : ℕ → ℕ → Bool} {ds : List Demand} (by : ByTest m n wanted ds) where
   -- the tests of the definitions: a bidder counts all of whose options that `keep` passes lie in the set. For the rising set those are the demanded
   -- options, for S~ the demanded items of `above`
   module _ (keep : Bool → ℕ → Bool) (counts : Demand → Bool) (s : ℕ) (t : ℕ → Bool) (agrees : (i : ℕ) → i < suc m → has s i ≡ t i)
@@ -27,24 +30,24 @@ module _ (m n : ℕ) (wanted : ℕ → ℕ → Bool) (ds : List Demand) (count-i
     unfolding CrowdOf sub each Part
     to-crowd e =
         crowd-mono m n (λ b. wants (nth ds b)) wanted (λ b. counts (nth ds b)) (λ b. sub m (λ i. keep (wanted b i) i) t) (has s) t
-        (λ b i lb li w. sym (wanted-is b i lb li) ∙ w)
+        (λ b i lb li w. sym (by .wanted-is b i lb li) ∙ w)
         (λ b lb c. sub-make m (λ i. keep (wanted b i) i) t
         (λ i li w. sym (agrees i li) ∙ imp-use (keep (wants (nth ds b) i) i) (has s i)
         (all-use (suc m) _ (sym (counts-is b) ∙ c) i li)
-        (ap (λ (x : Bool). keep x i) (wanted-is b i lb li) ∙ w)))
+        (ap (λ (x : Bool). keep x i) (by .wanted-is b i lb li) ∙ w)))
         (λ i li w. agrees i li ∙ w)
-        (subst (λ (n : ℕ). Crowd m n (λ b. wants (nth ds b)) (λ b. counts (nth ds b)) (has s)) count-is (crowded-use m ds counts s e))
+        (subst (λ (n : ℕ). Crowd m n (λ b. wants (nth ds b)) (λ b. counts (nth ds b)) (has s)) (by .count-is) (crowded-use m ds counts s e))
 
     of-crowd : Crowd m n wanted (λ b. sub m (λ i. keep (wanted b i) i) t) t → crowded m ds counts s ≡ true
     unfolding CrowdOf sub each Part
     of-crowd c =
         crowded-make m ds counts s
-        (subst (λ (n : ℕ). Crowd m n (λ b. wants (nth ds b)) (λ b. counts (nth ds b)) (has s)) (sym count-is)
+        (subst (λ (n : ℕ). Crowd m n (λ b. wants (nth ds b)) (λ b. counts (nth ds b)) (has s)) (sym (by .count-is))
         (crowd-mono m n wanted (λ b. wants (nth ds b)) (λ b. sub m (λ i. keep (wanted b i) i) t) (λ b. counts (nth ds b)) t (has s)
-        (λ b i lb li w. wanted-is b i lb li ∙ w)
+        (λ b i lb li w. by .wanted-is b i lb li ∙ w)
         (λ b lb e. counts-is b ∙ all-make (suc m) _
         (λ i li. imp-make (keep (wants (nth ds b) i) i) (has s i)
-        (λ w. agrees i li ∙ sub-use m (λ i. keep (wanted b i) i) t e i li (ap (λ (x : Bool). keep x i) (sym (wanted-is b i lb li)) ∙ w))))
+        (λ w. agrees i li ∙ sub-use m (λ i. keep (wanted b i) i) t e i li (ap (λ (x : Bool). keep x i) (sym (by .wanted-is b i lb li)) ∙ w))))
         (λ i li w. sym (agrees i li) ∙ w)
         c))
 
