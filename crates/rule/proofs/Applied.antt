@@ -42,6 +42,11 @@ pub null-stays : demand 1 (0 ∷ []) (0 ∷ []) .null ≡ true
 unfolding computing
 null-stays = refl
 
+-- a 0 for item 1 says nothing of item 2
+pub others-stay : demand 2 (0 ∷ 0 ∷ []) (0 ∷ 1 ∷ []) .items ≡ 2
+unfolding computing
+others-stay = refl
+
 -- at price 0 a bid of 1 is one; at price 1 it is one beside null
 pub at-no-price : demand 1 (0 ∷ []) (1 ∷ []) .items ≡ 1
 unfolding computing
