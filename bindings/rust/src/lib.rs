@@ -85,7 +85,8 @@ mod linked {
     }
 }
 
-/// The sealed auction: `start` has a price for each item, `bids` a bid for each item, bidder after bidder.
+/// The sealed auction: `start` has a price for each item, `bids` a bid for each item, bidder after bidder. A bid of 0 is none: nobody gets an item that they
+/// bid 0 for, also at price 0.
 ///
 /// Refused with 1, 2, 3, 4 or 5, in this order.
 pub fn sealed(items: u32, bidders: u32, start: &[u16], bids: &[u16]) -> Result<Closing, Refusal> {

@@ -1,3 +1,4 @@
 pub mod LeastPrices
 pub mod Settling
 pub mod Sealing
+pub mod Naming

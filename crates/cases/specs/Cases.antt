@@ -1,5 +1,5 @@
--- Document 01, "Lettings to try": K1 to K9, row by row as they stand there, K5 and K7 with the names of document 02, #102, in one table with one statement. Items are its pans, bidders its rakers, prices
--- its rents, options its names. Assumes nothing: these are definitions.
+-- Document 01, "Lettings to try": K1 to K9, row by row as they stand there, but K5 and K7, which name no pan since document 02, #102. One table with one
+-- statement. Items are its pans, bidders its rakers, prices its rents, options its names. Assumes nothing: these are definitions.
 use Prim.Native.Nat.{ℕ, _+_, _-_, _^_, _<_}
 use mathlib.Core.Bool.{true, false}
 use mathlib.Core.List.{List, [], _∷_, map}

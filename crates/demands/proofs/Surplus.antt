@@ -17,6 +17,10 @@ use Rattle.rule.specs.Demand.{surplusAtLeast, best, demand}
 use Rattle.rule.specs.Equilibrium.{greatest}
 use Rattle.rule.proofs.Greatest.{greatest-ge, greatest-some}
 
+-- item i is bid for, and of the highest surplus
+abbrev pub demandedAt : (m : ℕ) (p b : List ℕ) → ℕ → Bool
+demandedAt m p b i = ltb 0 (amount b i) && best m p b i
+
 module _ (m : ℕ) (p b : List ℕ) (x : ℕ) (e : x ≡ greatest m (λ i. amount b i - amount p i)) where
   -- how far an option's bid is over its price
   abbrev gain : ℕ → ℕ
@@ -58,10 +62,10 @@ module _ (m : ℕ) (p b : List ℕ) (x : ℕ) (e : x ≡ greatest m (λ i. amoun
 
   -- ---- the code's tests, of an item and of null
 
-  pub item-test : (k : ℕ) → k < m → ltb 0 (getD b k 0) && eqb (getD b k 0) (getD p k 0 + x) ≡ ltb 0 (amount b (k + 1)) && best m p b (k + 1)
+  pub item-test : (k : ℕ) → k < m → ltb 0 (getD b k 0) && eqb (getD b k 0) (getD p k 0 + x) ≡ demandedAt m p b (k + 1)
   unfolding amount
   item-test k l =
-      ap (λ (t : Bool). ltb 0 (amount b (suc k)) && t) (test-is (suc k) (omega arith)) ∙ ap (λ (i : ℕ). ltb 0 (amount b i) && best m p b i) (sym (add-one k))
+      ap (λ (t : Bool). ltb 0 (amount b (suc k)) && t) (test-is (suc k) (omega arith)) ∙ ap (demandedAt m p b) (sym (add-one k))
 
   pub null-test : eqb x 0 ≡ demand m p b .null
   unfolding demand amount

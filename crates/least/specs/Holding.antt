@@ -5,7 +5,8 @@ use mathlib.Core.Path.{_≡_}
 use mathlib.Core.Bool.{Bool, true}
 use mathlib.Core.Logic.{_⊎_}
 
--- bidder b demands option i at the prices p: no option has a higher surplus, by sums
+-- bidder b demands option i at the prices p: no option has a higher surplus, by sums. Here that goes for an item with bid 0 too, which the rule's demand leaves out:
+-- least prices are the same with it and without (docs/THEORY.md 1.9)
 abbrev pub Demands : ℕ → (ℕ → ℕ → ℕ) → (ℕ → ℕ) → ℕ → ℕ → Type 0
 Demands m bid p b i = (j : ℕ) → j < suc m → bid b j + p i ≤ bid b i + p j
 

@@ -218,8 +218,8 @@ two-for-two = record { raised-more = λ e. absurd (omega (arith, e)); lowered-no
 
 -- ---- without #102
 
--- a bid of 0 is a bid like any other
-pub former-zero : formerDemand 1 (0 ∷ []) (0 ∷ []) .items ≡ 1
+-- a bid of 0 is a bid like any other, for each item, beside null
+pub former-zero : formerDemand 2 (0 ∷ 0 ∷ []) (0 ∷ 0 ∷ []) ≡ orNull 3
 unfolding computing
 former-zero = refl
 

@@ -97,9 +97,9 @@ module _ (m : ℕ) (bids : List (List ℕ)) (p : List ℕ) where
       (λ ne. same-fall (excessSupply m (positive m p) (demands m bids p)) (supply-positive m p (demands m bids p)))
       same-none
 
-reason-same : (s : Sheet) (k : ℕ) → reasonAt s k ≡ formerReasonAt s k
+same-path-reason : (s : Sheet) (k : ℕ) → reasonAt s k ≡ formerReasonAt s k
 unfolding reasonAt formerReasonAt roundAt
-reason-same s k =
+same-path-reason s k =
     same-reason (s .items) (s .bids) (path s k .prices) (path s k .phase)
     ∙ ap (reasonOf (s .items) (formerDemands (s .items) (s .bids) (path s k .prices))) (same-round (s .items) (s .bids) (path s k))
     ∙ ap (λ (t : State). reasonOf (s .items) (formerDemands (s .items) (s .bids) (t .prices)) (formerRoundAt (s .items) (s .bids) t)) (same-path s k)
@@ -113,7 +113,7 @@ unchanged s =
       states = same-path s;
       closes = same-path s mostRounds;
       rounds = λ k. same-round (s .items) (s .bids) (path s k) ∙ ap (formerRoundAt (s .items) (s .bids)) (same-path s k);
-      reasons = reason-same s;
+      reasons = same-path-reason s;
       balance = to-former (s .items) (s .bids);
       balance-back = from-former (s .items) (s .bids);
     }

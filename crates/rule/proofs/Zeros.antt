@@ -62,7 +62,7 @@ module _ (m : ℕ) (p r : List ℕ) where
   demanded-bid (suc k) l pos e =
       ltb-true 0 (amount r (suc k)) (and-left (ltb 0 (amount r (suc k))) (best m p r (suc k)) (sym (item-is k (omega arith)) ∙ e))
 
-  -- and what is of the highest surplus is demanded, if it is bid for
+  -- where an item of the highest surplus is always bid for, the test of the bid changes nothing
   bid-for : (k : ℕ) → (best m p r (suc k) ≡ true → amount r (suc k) ≡ 0 → ⊥) → ltb 0 (amount r (suc k)) && best m p r (suc k) ≡ best m p r (suc k)
   bid-for k h = go (ℕ-discrete (amount r (suc k)) 0)
     where

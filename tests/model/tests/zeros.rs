@@ -2,6 +2,8 @@
 
 use model::generate::{sheet, Shape, SHAPES};
 use model::literal::{above_zero, close, demand, demands, first_assignment, former_demand, path, path_by, Demand};
+use model::live::{Answer, Call, Report};
+use model::machine::Machine;
 use model::random::Random;
 use model::reasons::{along, along_by};
 use model::{flows, Sheet};
@@ -12,6 +14,12 @@ fn small(r: &mut Random) -> Sheet {
     let start = (0..items).map(|_| r.amount(top)).collect();
     let bids = (0..items * bidders).map(|_| if r.one_in(2) { 0 } else { r.amount(top) }).collect();
     Sheet { items, bidders, start, bids }
+}
+
+/// Such sheets, from a seed.
+fn small_sheets(seed: u64, count: usize) -> impl Iterator<Item = Sheet> {
+    let mut r = Random::new(seed);
+    (0..count).map(move |_| small(&mut r))
 }
 
 /// An item with bid 0 is in no demand, and every demand has something.
@@ -33,10 +41,8 @@ fn never_demanded() {
 /// Rounds and reasons are what they were, on sheets with many zeros; some names are not.
 #[test]
 fn rounds_and_reasons_stay() {
-    let mut r = Random::new(202);
     let mut renamed = 0;
-    for _ in 0..4_000 {
-        let s = small(&mut r);
+    for s in small_sheets(202, 4_000) {
         let (now, before) = (path(&s), path_by(&s, former_demand));
         assert_eq!(now, before, "{s:?}");
         assert_eq!(along(&s, &now), along_by(&s, &before, former_demand), "{s:?}");
@@ -69,10 +75,8 @@ fn balance(s: &Sheet, prices: &[u16], demand: Demand) -> bool {
 /// Of all prices up to one above the highest bid, the same ones balance.
 #[test]
 fn the_same_prices_balance() {
-    let mut r = Random::new(204);
     let mut balanced = 0;
-    for _ in 0..600 {
-        let s = small(&mut r);
+    for s in small_sheets(204, 600) {
         let most = s.bids.iter().max().map_or(1, |b| b + 2);
         for k in 0..u32::from(most).pow(s.items as u32) {
             let digit = |i: usize| (k / u32::from(most).pow(i as u32) % u32::from(most)) as u16;
@@ -83,4 +87,19 @@ fn the_same_prices_balance() {
         }
     }
     assert!(balanced > 1_000, "{balanced}");
+}
+
+/// K5, one item at 0 and a bid of 0: the report that follows the sheet is null alone, and the read shows no item. With the item beside null, which document 01's
+/// demand had, the live auction closes as well, but not on this sheet.
+#[test]
+fn the_report_that_follows_the_sheet() {
+    let k5 = Sheet::new(&[0], &[&[0]]);
+    let report = |items| Call::Report { bidder: 1, report: Report { null: true, items } };
+    let mut machine = Machine::new(&k5);
+    assert_eq!(machine.call(report(0)), Some(Answer::Done));
+    assert_eq!(machine.call(Call::End), Some(Answer::Closed));
+    assert_eq!(machine.call(Call::Read { room: 21 }), Some(Answer::Sheet(b"000000000000\n0000\n00\n".to_vec())));
+    let mut machine = Machine::new(&k5);
+    assert_eq!(machine.call(report(1)), Some(Answer::Done));
+    assert_eq!(machine.call(Call::End), None);
 }

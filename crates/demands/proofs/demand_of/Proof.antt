@@ -1,21 +1,18 @@
 -- `demands::demand_of` meets its contract. The items so far are those of the highest surplus that are bid for. Assumes nothing.
 use Prim.Native.Nat.{_-_, _≤_}
 use mathlib.Core.Path.{_≡_, refl, _∙_}
-use mathlib.Core.Bool.{_&&_}
 use native.Mathlib.Omega.{arith}
-use lib.Dec.{ltb}
 use lib.ListN.{length}
 use Rattle.sets.specs.Bit.{setOf}
-use Rattle.rule.specs.Sheet.{amount}
-use Rattle.rule.specs.Demand.{best, demand}
+use Rattle.rule.specs.Demand.{demand}
 use Rattle.round.proofs.Adding.{add-next, add-end}
-use Rattle.demands.proofs.Surplus.{item-test, null-test}
+use Rattle.demands.proofs.Surplus.{demandedAt, item-test, null-test}
 use borrow.Author.Needs.{needs}
 use Rattle.demands.proofs.demand_of.Statement.{statement}
 use Rattle.demands.proofs.demand_of.Tie as tie
 
 abbrev Inv-loop : tie.InvT-loop
-Inv-loop prices line top items₀ i₀ items i = (i ≤ length line) × (items ≡ setOf i (λ j. ltb 0 (amount line j) && best (length line) prices line j))
+Inv-loop prices line top items₀ i₀ items i = (i ≤ length line) × (items ≡ setOf i (demandedAt (length line) prices line))
 
 abbrev μ-loop : tie.MeasureT-loop
 μ-loop prices line top items₀ i₀ items i = length line - i
@@ -64,7 +61,7 @@ loop-again c =
     let at = c .before .before .before .before .before .loop in
     let lt = c .before .before .before .before .loop-test .taken in (
       omega (arith, lt),
-      add-next 32 (λ j. ltb 0 (amount (a .line .now) j) && best (length (a .line .now)) (a .prices .now) (a .line .now) j) (at .i) (omega (arith, lt, c .before .before .before .before .before .before .before .before .before .pre)) (at .items) (c .before .demanded .result) (c .add-item .result) (at .inv .1)
+      add-next 32 (demandedAt (length (a .line .now)) (a .prices .now) (a .line .now)) (at .i) (omega (arith, lt, c .before .before .before .before .before .before .before .before .before .pre)) (at .items) (c .before .demanded .result) (c .add-item .result) (at .inv .1)
           (c .before .demanded .ensures ∙ item-test (length (a .line .now)) (a .prices .now) (a .line .now) (top .result) (top .ensures) (at .i) lt) (c .add-item .ensures),
     )
 
@@ -75,7 +72,7 @@ returns-2 c =
     let top = c .before .before .highest in
     let at = c .before .loop in (
       null-test (length (a .line .now)) (a .prices .now) (a .line .now) (top .result) (top .ensures),
-      add-end (λ j. ltb 0 (amount (a .line .now) j) && best (length (a .line .now)) (a .prices .now) (a .line .now) j) (at .i) (length (a .line .now)) (at .items) (at .inv .1) (at .inv .0) (c .loop-test .left),
+      add-end (demandedAt (length (a .line .now)) (a .prices .now) (a .line .now)) (at .i) (length (a .line .now)) (at .items) (at .inv .1) (at .inv .0) (c .loop-test .left),
     )
 
 pub demand-of-spec : {M : Type 1} → statement M
