@@ -33,12 +33,12 @@ orNull s = record { null = true; items = s }
 
 -- ---- demand
 
--- K5: at price 0 a bid of 0 is no bid, and null stays
-pub zero-left-out : demand 1 (0 ∷ []) (0 ∷ []) .items ≡ 0
+-- at price 0 a bid of 0 is no bid, for either of two items, and null stays
+pub zero-left-out : demand 2 (0 ∷ 0 ∷ []) (0 ∷ 0 ∷ []) .items ≡ 0
 unfolding computing
 zero-left-out = refl
 
-pub null-stays : demand 1 (0 ∷ []) (0 ∷ []) .null ≡ true
+pub null-stays : demand 2 (0 ∷ 0 ∷ []) (0 ∷ 0 ∷ []) .null ≡ true
 unfolding computing
 null-stays = refl
 
