@@ -13,7 +13,7 @@ use Rattle.sets.specs.Lists.{tabulate, places}
 use Rattle.sets.specs.Sum.{sum}
 use Rattle.rule.specs.Sheet.{amount, row, Sheet, priceSum}
 use Rattle.rule.specs.Demand.{surplusAtLeast, best, demand, demands, wants, nth}
-use Rattle.rule.specs.Excess.{bidders, crowded, inExcess, inPositiveExcess, excessDemand, positiveExcessDemand, excessSupply, positive}
+use Rattle.rule.specs.Excess.{bidders, crowded, inExcess, inPositiveExcess, excessDemand, positiveExcessDemand, excessSupply, aboveFloors}
 use Rattle.rule.specs.Round.{raise, lower, raised, lowered, closed, roundFalling, round, move, roundAt, after, opening, path, mostRounds, close}
 use Rattle.rule.specs.Assignment.{option, holders, isAssignment, fits, someList, choose, assignment}
 use Rattle.rule.specs.Refusal.{first, badItems, badBidders, badLength, anyOver, badBidder}
@@ -33,7 +33,7 @@ use Rattle.agreement.specs.Agreement.{openingOf, liveRun, standsFor, all
 
 -- the definitions that the instances compute with
 computing : Unit {0}
-unfolding amount row surplusAtLeast best demand demands wants nth bidders crowded inExcess inPositiveExcess excessDemand positiveExcessDemand excessSupply positive raise lower roundFalling round move roundAt after opening path mostRounds close option holders isAssignment fits someList choose assignment allBelow anyBelow count bit isSet has setOf each any size lowest largestBelow largest sum priceSum first badItems badBidders badLength anyOver badBidder tabulate places digit hex newline joined pricesLine closingSheet closingLength writtenTo reports place hasReported missing isEmpty beyond unfit reportsOf aboveZero risingSet fallingSet countsFit pricesFit unusedPrices unusedPlaces unusedBits reportedFit othersEmpty roundsFit closeFits wellFormed openNumber opened unopened openAuction saying reportNumber withReport report clearNumber cleared clear atTop endNumber roundBy settled endAnswer endNext readNumber namesOf sheetOf readBytes call run begin at phaseOf phase doesStand said saidAll isMissing sameBool sameDemand standsAs demandsStand tells machineReport machineClear machineReadNumber sealedSheet machineRead machineEndNumber next turned machineEnd machine behind machineRun openingOf liveRun standsFor allRounds
+unfolding amount row surplusAtLeast best demand demands wants nth bidders crowded inExcess inPositiveExcess excessDemand positiveExcessDemand excessSupply aboveFloors raise lower roundFalling round move roundAt after opening path mostRounds close option holders isAssignment fits someList choose assignment allBelow anyBelow count bit isSet has setOf each any size lowest largestBelow largest sum priceSum first badItems badBidders badLength anyOver badBidder tabulate places digit hex newline joined pricesLine closingSheet closingLength writtenTo reports place hasReported missing isEmpty beyond unfit reportsOf aboveZero risingSet fallingSet countsFit pricesFit unusedPrices unusedPlaces unusedBits reportedFit othersEmpty roundsFit closeFits wellFormed openNumber opened unopened openAuction saying reportNumber withReport report clearNumber cleared clear atTop endNumber roundBy settled endAnswer endNext readNumber namesOf sheetOf readBytes call run begin at phaseOf phase doesStand said saidAll isMissing sameBool sameDemand standsAs demandsStand tells machineReport machineClear machineReadNumber sealedSheet machineRead machineEndNumber next turned machineEnd machine behind machineRun openingOf liveRun standsFor allRounds
 computing = tt
 
 -- ---- an instance: a sheet, calls with their answers, and the record after them

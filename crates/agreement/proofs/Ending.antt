@@ -14,7 +14,7 @@ use Rattle.sets.specs.Lists.{places}
 use Rattle.sets.proofs.Counting.{and-below, and-left, and-right, not-both, is-false, any-use, and-right-false}
 use Rattle.rule.specs.Sheet.{amount, Sheet}
 use Rattle.rule.specs.Demand.{Demand}
-use Rattle.rule.specs.Excess.{excessDemand, positive}
+use Rattle.rule.specs.Excess.{excessDemand, aboveFloors}
 use Rattle.rule.specs.Round.{rising, falling, Round, raised, lowered, closed, State, move, roundAt, round, path, raise, lower}
 use Rattle.rule.specs.Round.{Phase as RulePhase}
 use Rattle.rule.specs.Closing.{demandsAt, excessDemandAt, roundOf, phaseAfter, Closing}
@@ -157,8 +157,8 @@ module _ (s : Sheet) (lim : Limits s) (c : Closing s) (t : Machine) (g : Good s 
   round-is o h =
       ap (λ (x : ℕ). round x (aboveZero (standsFor s t)) (reportsOf (standsFor s t)) (ruled (standsFor s t .phase))) items-is
       ∙ ap (λ (x : ℕ). round m x (reportsOf (standsFor s t)) (ruled (standsFor s t .phase))) (above-is s t lim)
-      ∙ ap (λ (x : List Demand). round m (positive m (at s t .prices)) x (ruled (standsFor s t .phase))) (reports-is s t lim ∙ said-demands s t h)
-      ∙ ap (λ (x : RulePhase). round m (positive m (at s t .prices)) (demandsAt s (at s t .prices)) x) (phases o)
+      ∙ ap (λ (x : List Demand). round m (aboveFloors m (at s t .prices)) x (ruled (standsFor s t .phase))) (reports-is s t lim ∙ said-demands s t h)
+      ∙ ap (λ (x : RulePhase). round m (aboveFloors m (at s t .prices)) (demandsAt s (at s t .prices)) x) (phases o)
 
   -- ---- the record after it
 

@@ -11,7 +11,7 @@ use borrow.Author.Tests.{not-false as not-false-is}
 use Rattle.sets.specs.Lists.{places}
 use Rattle.sets.proofs.Lists.{places-at}
 use Rattle.rule.specs.Sheet.{Sheet}
-use Rattle.rule.specs.Excess.{positive}
+use Rattle.rule.specs.Excess.{aboveFloors}
 use Rattle.rule.specs.Round.{State, close}
 use Rattle.rule.specs.Assignment.{assignment}
 use Rattle.rule.specs.Closing.{assignmentAt, Closing}
@@ -60,7 +60,7 @@ module _ (s : Sheet) (lim : Limits s) (c : Closing s) (t : Machine) (g : Good s 
         let items : standsFor s t .items ≡ m = unfold standsFor in refl in
         ap (λ (x : ℕ). assignment x (aboveZero (standsFor s t)) (reportsOf (standsFor s t))) items
         ∙ ap (λ (x : ℕ). assignment m x (reportsOf (standsFor s t))) (above-is s t lim)
-        ∙ ap (assignment m (positive m (at s t .prices))) (reports-is s t lim ∙ said-demands s t (g .at-close done .0))
+        ∙ ap (assignment m (aboveFloors m (at s t .prices))) (reports-is s t lim ∙ said-demands s t (g .at-close done .0))
         ∙ ap (λ (q : State). assignmentAt s (q .prices)) at-is
 
     -- a closed record's sheet is the sealed closing sheet

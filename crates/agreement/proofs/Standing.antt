@@ -15,7 +15,7 @@ use Rattle.sets.proofs.Lists.{tabulate-at, tabulate-same, places-at}
 use Rattle.sets.proofs.Members.{has-setOf, setOf-cong}
 use Rattle.rule.specs.Sheet.{amount, Sheet}
 use Rattle.rule.specs.Demand.{Demand, nth}
-use Rattle.rule.specs.Excess.{excessDemand, positive}
+use Rattle.rule.specs.Excess.{excessDemand, aboveFloors}
 use Rattle.rule.specs.Closing.{demandsAt}
 use Rattle.rule.proofs.AtPrices.{demands-length}
 use Rattle.rule.proofs.Limits.{Limits}
@@ -121,8 +121,8 @@ module _ (s : Sheet) (t : Machine) where
         let max = lim .max-bidders in
         any-cong n (λ k. not (hasReported (standsFor s t) (suc k))) (λ k. not (doesStand (t .standing (suc k)))) (λ k l. ap not (reported-at k (omega (arith, max, l))))
 
-    pub above-is : aboveZero (standsFor s t) ≡ positive (s .items) (at s t .prices)
-    unfolding aboveZero standsFor positive
+    pub above-is : aboveZero (standsFor s t) ≡ aboveFloors (s .items) (at s t .prices)
+    unfolding aboveZero standsFor aboveFloors
     above-is =
         let max = lim .max-items in
         setOf-cong (s .items) (λ i. ltb 0 (amount (standsFor s t .prices) i)) (λ i. ltb 0 (amount (at s t .prices) i))

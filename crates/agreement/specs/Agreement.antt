@@ -13,7 +13,7 @@ use Rattle.rule.specs.Round.{Round, closed, State, close}
 use Rattle.rule.specs.Closing.{roundOf, assignmentAt}
 use Rattle.lines.specs.Lines.{closingLength, writtenTo}
 use Rattle.live.specs.Auction.{wellFormed}
-use Rattle.live.specs.Calls.{openAuction, endNumber, gives, refused, endAnswer}
+use Rattle.live.specs.Calls.{openAbove, endNumber, gives, refused, endAnswer}
 use Rattle.live.specs.Reading.{namesOf, readNumber, readBytes}
 use Rattle.live.specs.declared.Auction.{Auction}
 use Rattle.live.specs.declared.Reply.{Reply}
@@ -21,20 +21,21 @@ use Rattle.live.specs.declared.Phase.the-variants.{Closed}
 use Rattle.agreement.specs.Calls.{Call, Answer, told, ended, shown, Ran, run}
 use Rattle.agreement.specs.Machine.{Machine, at, phase, doesStand, said, demandsStand, sealedSheet}
 
--- a live list: an opening with the sheet's counts and starting prices, then the calls
+-- a live list: an opening with the sheet's counts, starting prices and floors, then the calls
 unfoldable pub openingOf : Sheet → Reply
-openingOf s = openAuction (s .items) (length (s .bids)) (s .start)
+openingOf s = openAbove (s .items) (length (s .bids)) (s .start) (s .floors)
 
 unfoldable pub liveRun : Sheet → List Call → Ran
 liveRun s calls = run (openingOf s .next) calls
 
--- the record that holds what the machine holds: its prices, rounds raised, rounds lowered, phase and reports
+-- the record that holds what the machine holds: its prices, rounds raised, rounds lowered, phase and reports; and the sheet's floors
 unfoldable pub standsFor : Sheet → Machine → Auction
 standsFor s t =
     record {
       items = s .items;
       bidders = length (s .bids);
       prices = places 32 (at s t .prices);
+      floors = places 32 (s .floors);
       sets = tabulate 64 (λ k. said (t .standing (suc k)) .items) 0;
       nulls = setOf 64 (λ i. said (t .standing i) .null);
       reported = setOf 64 (λ i. doesStand (t .standing i));

@@ -6,7 +6,7 @@ use native.Mathlib.Omega.{arith}
 use lib.ListN.{length, getD}
 use Rattle.sets.proofs.Lists.{places-at}
 use Rattle.rule.specs.Sheet.{Sheet, amount, row}
-use Rattle.rule.specs.Excess.{positive}
+use Rattle.rule.specs.Excess.{aboveFloors}
 use Rattle.rule.specs.Assignment.{option}
 use Rattle.rule.specs.Closing.{assignmentAt}
 use Rattle.rule.proofs.Limits.{limits}
@@ -19,7 +19,7 @@ pub bid-for : (s : Sheet) (r : Closing) → Promised s r → (b : ℕ) → b < l
 unfolding option
 bid-for s r p b l =
     subst (λ (i : ℕ). 0 < i → 0 < amount (row (s .bids) b) i) (sym is)
-    (named-bid (s .items) (positive (s .items) (p .closing .prices)) (s .bids) (p .closing .prices) names (p .closing .fitting) b l)
+    (named-bid (s .items) (aboveFloors (s .items) (p .closing .prices)) (s .bids) (p .closing .prices) names (p .closing .fitting) b l)
   where
     names : List ℕ
     names = assignmentAt s (p .closing .prices)

@@ -6,14 +6,14 @@ use mathlib.Core.List.{List}
 use Rattle.sets.specs.Lists.{places}
 use Rattle.rule.specs.Sheet.{Sheet, withinLimits}
 use Rattle.rule.specs.Demand.{demands}
-use Rattle.rule.specs.Excess.{positive}
+use Rattle.rule.specs.Excess.{aboveFloors}
 use Rattle.rule.specs.Round.{State, close}
 use Rattle.rule.specs.Assignment.{assignment}
 use Rattle.rule.specs.Closing.{assignmentAt}
 use Rattle.rule.specs.Closing as rule
 use Rattle.round.specs.Reports.{reports, Reported}
-use Rattle.prices.proofs.Moving.{demands-places, positive-places}
-use Rattle.round.proofs.Narrowing.{positive-lt}
+use Rattle.prices.proofs.Moving.{demands-places, aboveFloors-places}
+use Rattle.round.proofs.Narrowing.{aboveFloors-lt}
 use Rattle.assignment.specs.Assigned.{assigned}
 use Rattle.assignment.proofs.Unfit.{assigned-is}
 use Rattle.assignment.proofs.Narrowing.{assignment-narrow}
@@ -79,16 +79,16 @@ made u k p names = record { refusal = 0; raised = u; lowered = k; prices = p; as
 
 module _ (s : Sheet) (g : Ready s) where
   -- the names at the closing prices
-  module _ (n : ℕ) (p sets : List ℕ) (nulls above : ℕ) (ep : p ≡ places 32 (close s .prices)) (ea : above ≡ positive (s .items) p)
+  module _ (n : ℕ) (p sets : List ℕ) (nulls above : ℕ) (ep : p ≡ places 32 (close s .prices)) (ea : above ≡ aboveFloors (s .items) p)
       (rep : Reported (s .items) n sets) (same : reports n sets nulls ≡ demands (s .items) (s .bids) p) where
-    above-is : above ≡ positive (s .items) (close s .prices)
-    above-is = ea ∙ ap (positive (s .items)) ep ∙ positive-places (s .items) (g .limits .max-items) (close s .prices) (close-long s g) (s .items)
+    above-is : above ≡ aboveFloors (s .items) (close s .prices)
+    above-is = ea ∙ ap (aboveFloors (s .items)) ep ∙ aboveFloors-places (s .items) (g .limits .max-items) (close s .prices) (close-long s g) (s .items)
 
     reports-are : reports n sets nulls ≡ demands (s .items) (s .bids) (close s .prices)
     reports-are = same ∙ ap (demands (s .items) (s .bids)) ep ∙ demands-places (s .items) (g .limits .max-items) (close s .prices) (close-long s g) (s .bids)
 
     above-lt : above < 2 ^ (s .items)
-    above-lt = subst (λ (x : ℕ). x < 2 ^ (s .items)) (sym ea) (positive-lt (s .items) p)
+    above-lt = subst (λ (x : ℕ). x < 2 ^ (s .items)) (sym ea) (aboveFloors-lt (s .items) p)
 
     names-at : assigned sets nulls above n ≡ places 64 (assignmentAt s (close s .prices))
     names-at =

@@ -10,7 +10,7 @@ use lib.ListN.{length, getD, replicate, List·getD-eq-default}
 use Rattle.sets.specs.Lists.{places}
 use Rattle.sets.proofs.Lists.{is-tabulate}
 use Rattle.rule.specs.Sheet.{Sheet, amount, withinLimits}
-use Rattle.rule.specs.Excess.{positive}
+use Rattle.rule.specs.Excess.{aboveFloors}
 use Rattle.rule.specs.Round.{State, opening, path, close}
 use Rattle.rule.specs.Equilibrium.{greatest}
 use Rattle.rule.specs.Closing.{Closing}
@@ -19,8 +19,8 @@ use Rattle.rule.proofs.Closing.{closing-of}
 use Rattle.rule.proofs.Greatest.{greatest-past}
 use Rattle.rule.proofs.Moves.{raise-length, lower-length}
 use Rattle.rule.proofs.Path.{kept}
-use Rattle.prices.proofs.Moving.{places-amount, positive-places}
-use Rattle.round.proofs.Narrowing.{positive-narrow}
+use Rattle.prices.proofs.Moving.{places-amount, aboveFloors-places}
+use Rattle.round.proofs.Narrowing.{aboveFloors-narrow}
 use Rattle.least.specs.Least.{Least}
 use Rattle.auction.proofs.LeastPrices.{least-turn, least-close}
 
@@ -39,9 +39,9 @@ path-long s e k =
     kept (s .items) (s .bids) (λ p. length p ≡ s .items) (λ p h. raise-length (s .items) p _) (λ p h. lower-length (s .items) p _) (opening (s .start)) e k
 
 -- prices in 32 places: no item past the last is above 0
-pub positive-wide : (m : ℕ) → m ≤ 32 → (q : List ℕ) → length q ≡ m → positive 32 (places 32 q) ≡ positive m q
-positive-wide m lm q long =
-    positive-places m lm q long 32 ∙ positive-narrow m q lm (λ j l. List·getD-eq-default q 0 {n = j} (omega (arith, long, l)))
+pub aboveFloors-wide : (m : ℕ) → m ≤ 32 → (q : List ℕ) → length q ≡ m → aboveFloors 32 (places 32 q) ≡ aboveFloors m q
+aboveFloors-wide m lm q long =
+    aboveFloors-places m lm q long 32 ∙ aboveFloors-narrow m q lm (λ j l. List·getD-eq-default q 0 {n = j} (omega (arith, long, l)))
 
 is-places : (p q : List ℕ) → length p ≡ 32 → ((i : ℕ) → amount p i ≡ amount q i) → p ≡ places 32 q
 unfolding places amount
@@ -62,10 +62,10 @@ module _ (s : Sheet) (g : Ready s) where
   close-long = path-long s long _
 
   -- of the closing prices in 32 places none past the items is above 0
-  pub past-items : (p : List ℕ) → p ≡ places 32 (close s .prices) → positive 32 p ≡ positive (s .items) p
+  pub past-items : (p : List ℕ) → p ≡ places 32 (close s .prices) → aboveFloors 32 p ≡ aboveFloors (s .items) p
   past-items p e =
-      ap (positive 32) e ∙ positive-wide (s .items) lm (close s .prices) close-long
-      ∙ sym (ap (positive (s .items)) e ∙ positive-places (s .items) lm (close s .prices) close-long (s .items))
+      ap (aboveFloors 32) e ∙ aboveFloors-wide (s .items) lm (close s .prices) close-long
+      ∙ sym (ap (aboveFloors (s .items)) e ∙ aboveFloors-places (s .items) lm (close s .prices) close-long (s .items))
 
   -- the least prices that the code finds, from 0 up and from the start up
   module _ (last : List ℕ) (end : Least (s .items) (s .bids) (replicate 32 0) last) (turn : List ℕ) (top : Least (s .items) (s .bids) (s .start) turn) where

@@ -80,7 +80,7 @@ pub fn sealed(items: usize, bidders: usize, start: &[u16], bids: &[u16]) -> Clos
     let path = rounds(start, bids, items, bidders);
     let last = path.prices;
     let d = demands::demands_at(&last, bids, items, bidders);
-    let names = assignment::first(&d.sets, d.nulls, round::positive(&last), bidders);
+    let names = assignment::first(&d.sets, d.nulls, round::above_floors(&last), bidders);
     Closing {
         refusal: 0,
         raised: path.raised,

@@ -15,10 +15,10 @@ use Rattle.sets.specs.Lists.{tabulate}
 use Rattle.sets.proofs.Counting.{below-suc}
 use Rattle.rule.specs.Sheet.{amount, row, each4095, Sheet, withinLimits}
 use Rattle.rule.specs.Demand.{surplusAtLeast, best, demand, demands, wants, nth}
-use Rattle.rule.specs.Excess.{bidders, crowded, inExcess, inPositiveExcess, excessDemand, positiveExcessDemand, excessSupply, positive}
+use Rattle.rule.specs.Excess.{bidders, crowded, inExcess, inPositiveExcess, excessDemand, positiveExcessDemand, excessSupply, aboveFloors}
 use Rattle.rule.specs.Round.{raise, lower, Round, raised, lowered, closed, State, roundFalling, round, move, roundAt, after, opening, path}
 use Rattle.rule.specs.Assignment.{option, holders, isAssignment, fits, someList, choose, assignment}
-use Rattle.cases.specs.Cases.{Given, sheet, demanded, Finding, rising, isS~, falling, closing, Closes, Found, Row, Each, Holds, table}
+use Rattle.cases.specs.Cases.{Given, sheetAbove, demanded, Finding, rising, isS~, falling, closing, Closes, Found, Row, Each, Holds, table}
 use Rattle.rule.specs.Closing.{phaseAfter, assignmentAt}
 
 -- ---- a path that counts as many rounds as it took has not closed before
@@ -36,25 +36,25 @@ move-closed : (m : ℕ) (s : State) (r : Round) → r ≡ closed → move m s r 
 unfolding move
 move-closed m s r e = rw e
 
-module _ (m : ℕ) (bids : List (List ℕ)) (s : State) where
-  rounds-le : (k : ℕ) → rounds (after m bids s k) ≤ rounds s + k
+module _ (m : ℕ) (floors : List ℕ) (bids : List (List ℕ)) (s : State) where
+  rounds-le : (k : ℕ) → rounds (after m floors bids s k) ≤ rounds s + k
   unfolding after
   rounds-le zero = omega arith
-  rounds-le (suc k) = omega (arith, rounds-le k, move-le m (after m bids s k) (roundAt m bids (after m bids s k)))
+  rounds-le (suc k) = omega (arith, rounds-le k, move-le m (after m floors bids s k) (roundAt m floors bids (after m floors bids s k)))
 
-  pub not-before : (k : ℕ) → rounds (after m bids s k) ≡ rounds s + k → (j : ℕ) → j < k → roundAt m bids (after m bids s j) ≡ closed → ⊥
+  pub not-before : (k : ℕ) → rounds (after m floors bids s k) ≡ rounds s + k → (j : ℕ) → j < k → roundAt m floors bids (after m floors bids s j) ≡ closed → ⊥
   unfolding after
   not-before zero e j l q = not-suc-le-zero l
   not-before (suc k) e j l q = go (below-suc l) (not-before k (omega (arith, rounds-le k, step, e)))
     where
-      step : rounds (move m (after m bids s k) (roundAt m bids (after m bids s k))) ≤ rounds (after m bids s k) + 1
-      step = move-le m (after m bids s k) (roundAt m bids (after m bids s k))
+      step : rounds (move m (after m floors bids s k) (roundAt m floors bids (after m floors bids s k))) ≤ rounds (after m floors bids s k) + 1
+      step = move-le m (after m floors bids s k) (roundAt m floors bids (after m floors bids s k))
 
-      go : (j ≡ k) ⊎ (j < k) → ((j : ℕ) → j < k → roundAt m bids (after m bids s j) ≡ closed → ⊥) → ⊥
+      go : (j ≡ k) ⊎ (j < k) → ((j : ℕ) → j < k → roundAt m floors bids (after m floors bids s j) ≡ closed → ⊥) → ⊥
       go (inr lt) ih = ih j lt q
       go (inl p) ih =
-          let at : roundAt m bids (after m bids s k) ≡ closed = ap (λ (x : ℕ). roundAt m bids (after m bids s x)) (sym p) ∙ q in
-          let stay = ap rounds (move-closed m (after m bids s k) (roundAt m bids (after m bids s k)) at) in
+          let at : roundAt m floors bids (after m floors bids s k) ≡ closed = ap (λ (x : ℕ). roundAt m floors bids (after m floors bids s x)) (sym p) ∙ q in
+          let stay = ap rounds (move-closed m (after m floors bids s k) (roundAt m floors bids (after m floors bids s k)) at) in
           omega (arith, rounds-le k, stay, e)
 
 -- ---- what is computed of a row: of a close the path's last state
@@ -63,7 +63,7 @@ record Last (s : Sheet) (bidders ups downs : ℕ) (prices options : List ℕ) : 
   limits : withinLimits s ≡ true
   counted : length (s .bids) ≡ bidders
   at-close : path s (ups + downs) ≡ record { phase = phaseAfter downs; prices = prices; ups = ups; downs = downs }
-  closes : roundAt (s .items) (s .bids) (record { phase = phaseAfter downs; prices = prices; ups = ups; downs = downs }) ≡ closed
+  closes : roundAt (s .items) (s .floors) (s .bids) (record { phase = phaseAfter downs; prices = prices; ups = ups; downs = downs }) ≡ closed
   assigned : assignmentAt s prices ≡ options
 
 from-last : (s : Sheet) (bidders ups downs : ℕ) (prices options : List ℕ) → Last s bidders ups downs prices options → Closes s bidders ups downs prices options
@@ -73,8 +73,8 @@ from-last s bidders ups downs prices options l =
       limits = l .limits;
       counted = l .counted;
       at-close = l .at-close;
-      closes = ap (roundAt (s .items) (s .bids)) (l .at-close) ∙ l .closes;
-      not-before = not-before (s .items) (s .bids) (opening (s .start)) (ups + downs) (ap rounds (l .at-close) ∙ omega arith);
+      closes = ap (roundAt (s .items) (s .floors) (s .bids)) (l .at-close) ∙ l .closes;
+      not-before = not-before (s .items) (s .floors) (s .bids) (opening (s .start)) (ups + downs) (ap rounds (l .at-close) ∙ omega arith);
       assigned = l .assigned;
     }
 
@@ -82,14 +82,16 @@ abbrev Computed : Given → Finding → Type 0
 Computed g (rising is) = Found g (rising is)
 Computed g (isS~ is) = Found g (isS~ is)
 Computed g (falling is) = Found g (falling is)
-Computed (sheet m n start bs) (closing ups downs prices options) = Last (record { items = m; start = start; bids = bs }) n ups downs prices options
+Computed (sheetAbove m n start floors bs) (closing ups downs prices options) =
+    Last (record { items = m; start = start; floors = floors; bids = bs }) n ups downs prices options
 Computed (demanded m above ds) (closing ups downs prices options) = ⊥
 
 found : (g : Given) (f : Finding) → Computed g f → Found g f
 found g (rising is) c = c
 found g (isS~ is) c = c
 found g (falling is) c = c
-found (sheet m n start bs) (closing ups downs prices options) c = from-last (record { items = m; start = start; bids = bs }) n ups downs prices options c
+found (sheetAbove m n start floors bs) (closing ups downs prices options) c =
+    from-last (record { items = m; start = start; floors = floors; bids = bs }) n ups downs prices options c
 found (demanded m above ds) (closing ups downs prices options) c = c
 
 each-map : {A : Type 0} (P Q : A → Type 0) → ((a : A) → P a → Q a) → (xs : List A) → Each P xs → Each Q xs
@@ -100,7 +102,7 @@ abbrev ComputedRow : Row → Type 0
 ComputedRow r = Each (Computed (r .given)) (r .finds)
 
 computed : Each ComputedRow table
-unfolding withinLimits each4095 path allBelow anyBelow count sum bit isSet has setOf each any size amount row surplusAtLeast best demand demands wants nth bidders crowded inExcess inPositiveExcess largestBelow largest excessDemand positiveExcessDemand excessSupply positive tabulate raise lower roundFalling round move roundAt after opening option holders isAssignment fits someList lowest choose assignment
+unfolding withinLimits each4095 path allBelow anyBelow count sum bit isSet has setOf each any size amount row surplusAtLeast best demand demands wants nth bidders crowded inExcess inPositiveExcess largestBelow largest excessDemand positiveExcessDemand excessSupply aboveFloors tabulate raise lower roundFalling round move roundAt after opening option holders isAssignment fits someList lowest choose assignment
 computed = (
   -- K1
   (record { limits = refl; counted = refl; at-close = refl; closes = refl; assigned = refl }, tt),
@@ -126,7 +128,20 @@ computed = (
               (
                 (record { limits = refl; counted = refl; at-close = refl; closes = refl; assigned = refl }, tt),
                 -- K9
-                ((record { limits = refl; counted = refl; at-close = refl; closes = refl; assigned = refl }, tt), tt),
+                (
+                  (record { limits = refl; counted = refl; at-close = refl; closes = refl; assigned = refl }, tt),
+                  -- with floors
+                  (
+                    (record { limits = refl; counted = refl; at-close = refl; closes = refl; assigned = refl }, tt),
+                    (
+                      (refl, (record { limits = refl; counted = refl; at-close = refl; closes = refl; assigned = refl }, tt)),
+                      (
+                        (refl, (record { limits = refl; counted = refl; at-close = refl; closes = refl; assigned = refl }, tt)),
+                        ((record { limits = refl; counted = refl; at-close = refl; closes = refl; assigned = refl }, tt), tt),
+                      ),
+                    ),
+                  ),
+                ),
               ),
             ),
           ),

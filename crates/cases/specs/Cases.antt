@@ -1,13 +1,14 @@
--- Document 01, "Lettings to try": K1 to K9, row by row as they stand there, but K5 and K7, which name no pan since document 02, #102. One table with one
--- statement. Items are its pans, bidders its rakers, prices its rents, options its names. Assumes nothing: these are definitions.
+-- Document 01, "Lettings to try": K1 to K9, row by row as they stand there, but K5 and K7, which name no pan since document 02, #102; their floors are 0. After
+-- them rows of our own with floors (#103). One table with one statement. Items are its pans, bidders its rakers, prices its rents, options its names. Assumes
+-- nothing: these are definitions.
 use Prim.Native.Nat.{ℕ, _+_, _-_, _^_, _<_}
 use mathlib.Core.Bool.{true, false}
 use mathlib.Core.List.{List, [], _∷_, map}
 use mathlib.Core.Path.{_≡_}
-use lib.ListN.{length}
+use lib.ListN.{length, replicate}
 use Rattle.rule.specs.Sheet.{Sheet, withinLimits}
 use Rattle.rule.specs.Demand.{Demand, demands}
-use Rattle.rule.specs.Excess.{excessDemand, positiveExcessDemand, excessSupply, positive}
+use Rattle.rule.specs.Excess.{excessDemand, positiveExcessDemand, excessSupply, aboveFloors}
 use Rattle.rule.specs.Round.{closed, path}
 use Rattle.rule.specs.Closing.{roundOf, assignmentAt, phaseAfter}
 
@@ -16,10 +17,14 @@ abbrev pub set : List ℕ → ℕ
 set [] = 0
 set (i ∷ is) = 2 ^ (i - 1) + set is
 
--- what a row gives: items, bidders, starting prices and each bidder's bids; or, of so many items, those of price above 0 and each bidder's demanded items
+-- what a row gives: items, bidders, starting prices, floors and each bidder's bids; or, of so many items, those of price above 0 and each bidder's demanded items
 pub data Given : Type 0 where
-  sheet : (items bidders : ℕ) (start : List ℕ) (bids : List (List ℕ)) → Given
+  sheetAbove : (items bidders : ℕ) (start floors : List ℕ) (bids : List (List ℕ)) → Given
   demanded : (items : ℕ) (above : List ℕ) (demands : List (List ℕ)) → Given
+
+-- a sheet without floors: they are 0
+abbrev sheet : (items bidders : ℕ) (start : List ℕ) (bids : List (List ℕ)) → Given
+sheet m n start bs = sheetAbove m n start (replicate m 0) bs
 
 -- what a row finds: the rising set, S~ or the falling set at the given prices; the close, with rounds raised, rounds lowered, prices and options
 pub data Finding : Type 0 where
@@ -27,18 +32,18 @@ pub data Finding : Type 0 where
   closing : (raised lowered : ℕ) (prices options : List ℕ) → Finding
 
 abbrev itemsOf : Given → ℕ
-itemsOf (sheet m n start bs) = m
+itemsOf (sheetAbove m n start floors bs) = m
 itemsOf (demanded m above ds) = m
 
 abbrev aboveOf : Given → ℕ
-aboveOf (sheet m n start bs) = positive m start
+aboveOf (sheetAbove m n start floors bs) = aboveFloors m floors start
 aboveOf (demanded m above ds) = set above
 
 abbrev only : List ℕ → Demand
 only is = record { null = false; items = set is }
 
 abbrev demandsOf : Given → List Demand
-demandsOf (sheet m n start bs) = demands m bs start
+demandsOf (sheetAbove m n start floors bs) = demands m bs start
 demandsOf (demanded m above ds) = map only ds
 
 -- the sheet is within the limits and has so many bidders; its path closes after so many rounds raised and lowered, and not before, at these prices, and
@@ -55,7 +60,8 @@ abbrev pub Found : Given → Finding → Type 0
 Found g (rising is) = excessDemand (itemsOf g) (demandsOf g) ≡ set is
 Found g (isS~ is) = positiveExcessDemand (itemsOf g) (aboveOf g) (demandsOf g) ≡ set is
 Found g (falling is) = excessSupply (itemsOf g) (aboveOf g) (demandsOf g) ≡ set is
-Found (sheet m n start bs) (closing ups downs prices options) = Closes (record { items = m; start = start; bids = bs }) n ups downs prices options
+Found (sheetAbove m n start floors bs) (closing ups downs prices options) =
+    Closes (record { items = m; start = start; floors = floors; bids = bs }) n ups downs prices options
 Found (demanded m above ds) (closing ups downs prices options) = ⊥
 
 pub record Row : Type 0 where
@@ -105,5 +111,15 @@ table =
     ∷ record {
       given = sheet 2 3 (5 ∷ 5 ∷ []) ((9 ∷ 2 ∷ []) ∷ (9 ∷ 2 ∷ []) ∷ (9 ∷ 2 ∷ []) ∷ []);
       finds = closing 4 3 (9 ∷ 2 ∷ []) (1 ∷ 2 ∷ 0 ∷ []) ∷ [];
+    }
+    -- a floor that nobody meets: the item stays unlet at its floor
+    ∷ record { given = sheetAbove 1 1 (7 ∷ []) (5 ∷ []) ((3 ∷ []) ∷ []); finds = closing 0 2 (5 ∷ []) (0 ∷ []) ∷ [] }
+    -- two floors and one bidder: named item 1, which is better by bids less floors; without floors item 2
+    ∷ record { given = sheetAbove 2 1 (0 ∷ 5 ∷ []) (0 ∷ 5 ∷ []) ((3 ∷ 7 ∷ []) ∷ []); finds = falling [] ∷ closing 0 0 (0 ∷ 5 ∷ []) (1 ∷ []) ∷ [] }
+    ∷ record { given = sheet 2 1 (0 ∷ 5 ∷ []) ((3 ∷ 7 ∷ []) ∷ []); finds = falling (2 ∷ []) ∷ closing 0 5 (0 ∷ 0 ∷ []) (2 ∷ []) ∷ [] }
+    -- K9 with a floor for item 2 above all bids for it
+    ∷ record {
+      given = sheetAbove 2 3 (5 ∷ 5 ∷ []) (0 ∷ 3 ∷ []) ((9 ∷ 2 ∷ []) ∷ (9 ∷ 2 ∷ []) ∷ (9 ∷ 2 ∷ []) ∷ []);
+      finds = closing 4 2 (9 ∷ 3 ∷ []) (1 ∷ 0 ∷ 0 ∷ []) ∷ [];
     }
     ∷ []

@@ -8,7 +8,7 @@ use lib.ListN.{length, getD}
 use Rattle.sets.specs.Lists.{places}
 use Rattle.sets.proofs.Lists.{is-tabulate, places-at}
 use Rattle.rule.specs.Sheet.{Sheet}
-use Rattle.rule.specs.Excess.{positive}
+use Rattle.rule.specs.Excess.{aboveFloors}
 use Rattle.rule.specs.Round.{State}
 use Rattle.rule.specs.Closing.{demandsAt, assignmentAt, Closing}
 use Rattle.rule.specs.Refusal.{badItems, badBidders, badLength, anyOver}
@@ -71,7 +71,7 @@ module _ (m n : ℕ) (start bids rounds prices options : List ℕ) (e : lentRefu
   as-bidders : length (assignmentAt s (c .prices)) ≡ n
   unfolding sheetOf
   as-bidders =
-      fits-use m (positive m (c .prices)) (demandsAt s (c .prices)) (assignmentAt s (c .prices)) (c .fitting) .assigns .all
+      fits-use m (aboveFloors m (c .prices)) (demandsAt s (c .prices)) (assignmentAt s (c .prices)) (c .fitting) .assigns .all
       ∙ demands-length m (s .bids) (c .prices) ∙ rows-length m n bids
 
   few-items : m ≤ 32

@@ -14,7 +14,7 @@ use Rattle.sets.specs.Lists.{tabulate, places}
 use Rattle.sets.specs.Sum.{sum}
 use Rattle.rule.specs.Sheet.{amount, priceSum}
 use Rattle.rule.specs.Demand.{wants, nth}
-use Rattle.rule.specs.Excess.{bidders, crowded, inExcess, inPositiveExcess, excessDemand, positiveExcessDemand, excessSupply, positive}
+use Rattle.rule.specs.Excess.{bidders, crowded, inExcess, inPositiveExcess, excessDemand, positiveExcessDemand, excessSupply, aboveFloors}
 use Rattle.rule.specs.Refusal.{badItems, badBidders, anyOver}
 use Rattle.round.specs.Reports.{reports}
 use Rattle.reports.specs.Report.{isEmpty, beyond, unfit}
@@ -25,7 +25,7 @@ use Rattle.live.specs.declared.Phase.the-variants.{Rising, Falling, Clos
 
 -- the definitions that the cases compute with
 computing : Unit {0}
-unfolding amount wants nth bidders crowded inExcess inPositiveExcess excessDemand positiveExcessDemand excessSupply positive allBelow anyBelow count bit isSet has setOf each any size largestBelow largest sum priceSum badItems badBidders anyOver tabulate places reports place hasReported missing isEmpty beyond unfit reportsOf aboveZero risingSet fallingSet countsFit pricesFit unusedPrices unusedPlaces unusedBits reportedFit othersEmpty roundsFit closeFits wellFormed
+unfolding amount wants nth bidders crowded inExcess inPositiveExcess excessDemand positiveExcessDemand excessSupply aboveFloors allBelow anyBelow count bit isSet has setOf each any size largestBelow largest sum priceSum badItems badBidders anyOver tabulate places reports place hasReported missing isEmpty beyond unfit reportsOf aboveZero risingSet fallingSet countsFit pricesFit unusedPrices unusedPlaces unusedBits reportedFit othersEmpty roundsFit closeFits wellFormed
 computing = tt
 
 -- number 11 lets the first record pass, and turns the second down

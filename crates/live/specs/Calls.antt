@@ -11,9 +11,9 @@ use Rattle.rule.specs.Sheet.{amount}
 use Rattle.rule.specs.Demand.{Demand}
 use Rattle.rule.specs.Round.{rising, falling, Round, raised, lowered, closed, round, raise, lower}
 use Rattle.rule.specs.Round.{Phase as RulePhase}
-use Rattle.rule.specs.Refusal.{on, first, badItems, badBidders, badLength, anyOver, badBidder}
+use Rattle.rule.specs.Refusal.{on, first, badItems, badBidders, badLength, anyOver, badFloors, badBidder}
 use Rattle.reports.specs.Report.{unfit}
-use Rattle.live.specs.Auction.{reportsOf, hasReported, missing, aboveZero, risingSet, wellFormed}
+use Rattle.live.specs.Auction.{reportsOf, hasReported, missing, itemsAbove, risingSet, wellFormed}
 use Rattle.live.specs.declared.Auction.{Auction}
 use Rattle.live.specs.declared.Phase.{Phase}
 use Rattle.live.specs.declared.Phase.the-variants.{Rising, Falling, Closed}
@@ -39,11 +39,22 @@ isRising Rising = true
 isRising Falling = false
 isRising Closed = false
 
--- ---- open: 1, 2, 3, 4
+-- ---- open: 1, 2, 3, 4; with floors 1, 2, 3, 4, 18
 
 unfoldable pub openNumber : (items bidders : ℕ) (start : List ℕ) → ℕ
 openNumber m n start =
     first (on 1 (badItems m) ∷ on 2 (badBidders n) ∷ on 3 (badLength start m) ∷ on 4 (anyOver start) ∷ [])
+
+unfoldable pub openAboveNumber : (items bidders : ℕ) (start floors : List ℕ) → ℕ
+openAboveNumber m n start floors =
+    first
+    (on 1 (badItems m)
+    ∷ on 2 (badBidders n)
+    ∷ on 3 (badLength start m)
+    ∷ on 3 (badLength floors m)
+    ∷ on 4 (anyOver start)
+    ∷ on 18 (badFloors start floors)
+    ∷ [])
 
 -- zeros only, the phase rising: the record beside an opening that is turned down
 unfoldable pub zeros : Auction
@@ -52,6 +63,7 @@ zeros =
       items = 0;
       bidders = 0;
       prices = replicate 32 0;
+      floors = replicate 32 0;
       sets = replicate 64 0;
       nulls = 0;
       reported = 0;
@@ -60,13 +72,14 @@ zeros =
       lowered = 0;
     }
 
--- the record that an opening makes: the starting prices, no reports, rising, no rounds
-unfoldable pub opened : (items bidders : ℕ) (start : List ℕ) → Auction
-opened m n start =
+-- the record that an opening makes: the starting prices and the floors, no reports, rising, no rounds
+unfoldable pub opened : (items bidders : ℕ) (start floors : List ℕ) → Auction
+opened m n start floors =
     record {
       items = m;
       bidders = n;
       prices = places 32 start;
+      floors = places 32 floors;
       sets = replicate 64 0;
       nulls = 0;
       reported = 0;
@@ -79,8 +92,13 @@ opened m n start =
 unfoldable pub unopened : ℕ → Reply
 unopened x = record { number = x; next = zeros }
 
+-- without floors they are 0
 unfoldable pub openAuction : (items bidders : ℕ) (start : List ℕ) → Reply
-openAuction m n start = elim (openNumber m n start) [ zero ↦ record { number = 0; next = opened m n start } | suc j ↦ unopened (suc j) ]
+openAuction m n start = elim (openNumber m n start) [ zero ↦ record { number = 0; next = opened m n start (replicate m 0) } | suc j ↦ unopened (suc j) ]
+
+unfoldable pub openAbove : (items bidders : ℕ) (start floors : List ℕ) → Reply
+openAbove m n start floors =
+    elim (openAboveNumber m n start floors) [ zero ↦ record { number = 0; next = opened m n start floors } | suc j ↦ unopened (suc j) ]
 
 -- ---- report: 11, 12, 7, 13, 8
 
@@ -101,6 +119,7 @@ withReport r bidder d =
       items = r .items;
       bidders = r .bidders;
       prices = r .prices;
+      floors = r .floors;
       sets = set (r .sets) (bidder - 1) (d .items);
       nulls = setOf 64 (λ i. has (r .nulls) i || (d .null && eqb i bidder));
       reported = setOf 64 (λ i. has (r .reported) i || eqb i bidder);
@@ -124,6 +143,7 @@ cleared r =
       items = r .items;
       bidders = r .bidders;
       prices = r .prices;
+      floors = r .floors;
       sets = replicate 64 0;
       nulls = 0;
       reported = 0;
@@ -159,7 +179,7 @@ ruled Closed = falling
 
 -- the round that the reports give
 unfoldable pub roundBy : Auction → Round
-roundBy r = round (r .items) (aboveZero r) (reportsOf r) (ruled (r .phase))
+roundBy r = round (r .items) (itemsAbove r) (reportsOf r) (ruled (r .phase))
 
 -- the record after a round: a move changes the prices by 1, is counted and empties the reports; a close keeps them
 unfoldable pub settled : Auction → Round → Auction
@@ -168,6 +188,7 @@ settled r (raised s) =
       items = r .items;
       bidders = r .bidders;
       prices = raise 32 (r .prices) s;
+      floors = r .floors;
       sets = replicate 64 0;
       nulls = 0;
       reported = 0;
@@ -180,6 +201,7 @@ settled r (lowered s) =
       items = r .items;
       bidders = r .bidders;
       prices = lower 32 (r .prices) s;
+      floors = r .floors;
       sets = replicate 64 0;
       nulls = 0;
       reported = 0;
@@ -192,6 +214,7 @@ settled r closed =
       items = r .items;
       bidders = r .bidders;
       prices = r .prices;
+      floors = r .floors;
       sets = r .sets;
       nulls = r .nulls;
       reported = r .reported;

@@ -7,7 +7,7 @@ use lib.ListN.{length}
 use Rattle.rule.specs.Refusal.{on, first}
 use Rattle.rule.specs.Assignment.{assignment}
 use Rattle.lines.specs.Lines.{closingSheet, closingLength, writtenTo}
-use Rattle.live.specs.Auction.{reportsOf, aboveZero, wellFormed}
+use Rattle.live.specs.Auction.{reportsOf, itemsAbove, wellFormed}
 use Rattle.live.specs.Calls.{isClosed}
 use Rattle.live.specs.declared.Auction.{Auction}
 
@@ -27,7 +27,7 @@ readNumber r out =
 
 -- the names: the first assignment in order, by the reports at the close
 unfoldable pub namesOf : Auction → List ℕ
-namesOf r = assignment (r .items) (aboveZero r) (reportsOf r)
+namesOf r = assignment (r .items) (itemsAbove r) (reportsOf r)
 
 -- the record's closing sheet
 unfoldable pub sheetOf : Auction → List ℕ

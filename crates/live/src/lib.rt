@@ -153,7 +153,7 @@ impl Auction {
     {
         let sets = self.sets;
         let prices = self.prices;
-        round::falling(&sets, round::positive(&prices))
+        round::falling(&sets, round::above_floors(&prices))
     }
 
     // the phase is closed
@@ -406,7 +406,7 @@ impl Auction {
     {
         let sets = self.sets;
         let prices = self.prices;
-        assignment::first(&sets, self.nulls, round::positive(&prices), self.bidders)
+        assignment::first(&sets, self.nulls, round::above_floors(&prices), self.bidders)
     }
 
     // writes the closing sheet's three lines to the front of the bytes, unless they are too few

@@ -17,7 +17,7 @@ use Rattle.sets.proofs.Lists.{tabulate-length, tabulate-at, tabulate-shift, pla
 use Rattle.sets.proofs.Members.{has-past}
 use Rattle.rule.specs.Sheet.{amount}
 use Rattle.rule.specs.Demand.{surplusAtLeast, best, demand, demands}
-use Rattle.rule.specs.Excess.{positive}
+use Rattle.rule.specs.Excess.{aboveFloors}
 use Rattle.rule.specs.Round.{raise, lower}
 use Rattle.prices.specs.Prices.{raisePlaces}
 
@@ -53,9 +53,10 @@ module _ (p q : List ℕ) (h : (i : ℕ) → amount p i ≡ amount q i) where
       ap (λ (f : ℕ → ℕ). map (λ b. record { null = each m (λ j. leb (amount b j + f 0) (amount b 0 + f j)); items = setOf m (λ i. ltb 0 (amount b i) && each m (λ j. leb (amount b j + f i) (amount b i + f j))) }) bids)
       (fun-ext h)
 
-  pub positive-same : (m : ℕ) → positive m p ≡ positive m q
-  unfolding positive
-  positive-same m = ap (λ (f : ℕ → ℕ). setOf m (λ i. ltb 0 (f i))) (fun-ext h)
+-- and of floors
+pub aboveFloors-same : (m : ℕ) (f g p q : List ℕ) → ((i : ℕ) → amount f i ≡ amount g i) → ((i : ℕ) → amount p i ≡ amount q i) → aboveFloors m f p ≡ aboveFloors m g q
+unfolding aboveFloors
+aboveFloors-same m f g p q hf hp = ap₂ (λ (x y : ℕ → ℕ). setOf m (λ i. ltb (x i) (y i))) (fun-ext hf) (fun-ext hp)
 
 module _ (m : ℕ) (lm : m ≤ 32) (p : List ℕ) (long : length p ≡ m) where
   past : (k : ℕ) → m ≤ k → getD p k 0 ≡ 0
@@ -69,9 +70,6 @@ module _ (m : ℕ) (lm : m ≤ 32) (p : List ℕ) (long : length p ≡ m) where
       go : (k < 32) ⊎ (32 ≤ k) → getD (places 32 p) k 0 ≡ getD p k 0
       go (inl l) = places-at 32 p k l
       go (inr l) = List·getD-eq-default (places 32 p) 0 {n = k} (omega (arith, places-length 32 p)) ∙ sym (past k (omega arith))
-
-  pub positive-places : (n : ℕ) → positive n (places 32 p) ≡ positive n p
-  positive-places n = positive-same (places 32 p) p places-amount n
 
   pub demands-places : (bids : List (List ℕ)) → demands m bids (places 32 p) ≡ demands m bids p
   demands-places bids = demands-same (places 32 p) p places-amount m bids
@@ -107,3 +105,7 @@ module _ (m : ℕ) (lm : m ≤ 32) (p : List ℕ) (long : length p ≡ m) where
   pub raise-places : (s : ℕ) → s < 2 ^ m → raise 32 (places 32 p) s ≡ places 32 (raise m p s)
   unfolding raise
   raise-places s ls = moved s (λ x b. x + toNat b) refl ls
+
+pub aboveFloors-places : (m : ℕ) → m ≤ 32 → (floors p : List ℕ) → length floors ≡ m → length p ≡ m → (n : ℕ)
+    → aboveFloors n (places 32 floors) (places 32 p) ≡ aboveFloors n floors p
+aboveFloors-places m lm floors p lf lp n = aboveFloors-same n (places 32 floors) floors (places 32 p) p (places-amount m lm floors lf) (places-amount m lm p lp)

@@ -6,7 +6,7 @@ ghost use lib.ListN.{getD};
 ghost use Rattle.sets.specs.Count.{toNat};
 ghost use Rattle.sets.specs.Lists.{places};
 ghost use Rattle.rule.specs.Round.{lower};
-ghost use Rattle.rule.specs.Refusal.{anyOver};
+ghost use Rattle.rule.specs.Refusal.{anyOver, anyUnder};
 ghost use Rattle.prices.specs.Prices.{raisePlaces};
 
 // The smaller of two amounts.
@@ -115,14 +115,28 @@ fn value(xs: &[u16], i: usize) -> u16
     0
 }
 
-// Starting prices in 32 places; what stands past 32 is left out.
-pub fn in_places(start: &[u16]) -> [u16; 32]
-    ensures { λ r. ⌜ r ≡ places 32 (now (start .entry)) ⌝ }
+// Some price is below its floor; a floor past the last price is held against 0.
+pub fn any_under(prices: &[u16], floors: &[u16]) -> bool
+    ensures { λ r. ⌜ r ≡ anyUnder (now (prices .entry)) (now (floors .entry)) ⌝ }
+{
+    let mut i: usize = 0;
+    while i < floors.len() {
+        if value(prices, i) < floors[i] {
+            return true;
+        }
+        i += 1;
+    }
+    false
+}
+
+// Starting prices, or floors, in 32 places; what stands past 32 is left out.
+pub fn in_places(xs: &[u16]) -> [u16; 32]
+    ensures { λ r. ⌜ r ≡ places 32 (now (xs .entry)) ⌝ }
 {
     let mut next = [0u16; 32];
     let mut i: usize = 0;
     while i < 32 {
-        next[i] = value(start, i);
+        next[i] = value(xs, i);
         i += 1;
     }
     next

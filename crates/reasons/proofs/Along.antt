@@ -13,15 +13,15 @@ use Rattle.sets.specs.Bit.{has}
 use Rattle.sets.specs.Lists.{places}
 use Rattle.rule.specs.Sheet.{Sheet, amount}
 use Rattle.rule.specs.Demand.{Demand, demands}
-use Rattle.rule.specs.Excess.{positive}
+use Rattle.rule.specs.Excess.{aboveFloors}
 use Rattle.rule.specs.Round.{Round, lowered, State, move, opening, after, path, close}
 use Rattle.rule.specs.Closing.{demandsAt, excessSupplyAt, roundOf, Closing}
 use Rattle.rule.specs.Reasons as rule
 use Rattle.rule.specs.Reasons.{reasonOf, reasonAt, roundCount}
 use Rattle.rule.proofs.Largest.{demand-bound, supply-bound}
 use Rattle.rule.proofs.Reasons.{count-is}
-use Rattle.prices.proofs.Moving.{places-amount, demands-places, positive-places, raise-room, raise-places, lower-places}
-use Rattle.auction.proofs.Settling.{Ready, path-long, positive-wide}
+use Rattle.prices.proofs.Moving.{places-amount, demands-places, aboveFloors-places, raise-room, raise-places, lower-places}
+use Rattle.auction.proofs.Settling.{Ready, path-long, aboveFloors-wide}
 use Rattle.reasons.specs.Sheets.{reasonLine}
 use Rattle.reasons.specs.Steps.{movingSet, moveBy, ReasonIs, pricesAfter}
 use Rattle.reasons.specs.declared.Reason.{Reason}
@@ -52,13 +52,13 @@ module _ (s : Sheet) (g : Ready s) where
     in-places : (i : ℕ) → amount (places 32 q) i ≡ amount q i
     in-places = places-amount items most q (long k)
 
-    pub past-items : positive 32 p ≡ positive (s .items) p
+    pub past-items : aboveFloors 32 p ≡ aboveFloors (s .items) p
     past-items =
-        ap (positive 32) here ∙ positive-wide items most q (long k) ∙ sym (ap (positive items) here ∙ positive-places items most q (long k) items)
+        ap (aboveFloors 32) here ∙ aboveFloors-wide items most q (long k) ∙ sym (ap (aboveFloors items) here ∙ aboveFloors-places items most q (long k) items)
 
     module _ (falls : Bool) (turned : falls ≡ leb (close s .ups) k) where
       abbrev set : ℕ
-      set = movingSet falls items (positive items q) (demandsAt s q)
+      set = movingSet falls items (aboveFloors items q) (demandsAt s q)
 
       -- the rounds to the turn raise, the others lower
       round-is : roundOf s k ≡ moveBy falls set
@@ -67,7 +67,7 @@ module _ (s : Sheet) (g : Ready s) where
           ups-is : close s .ups ≡ c .ups
           ups-is = ap (λ (t : State). t .ups) (c .close-is)
 
-          by : (f : Bool) → f ≡ leb (close s .ups) k → roundOf s k ≡ moveBy f (movingSet f items (positive items q) (demandsAt s q))
+          by : (f : Bool) → f ≡ leb (close s .ups) k → roundOf s k ≡ moveBy f (movingSet f items (aboveFloors items q) (demandsAt s q))
           by false e = c .rises k (omega (arith, ups-is, leb-false (close s .ups) k (sym e)))
           by true e =
               let since : k ≡ c .ups + (k - c .ups) = omega (arith, ups-is, leb-true (close s .ups) k (sym e)) in
@@ -77,18 +77,18 @@ module _ (s : Sheet) (g : Ready s) where
       set-small : set < 2 ^ items
       set-small = by falls
         where
-          by : (f : Bool) → movingSet f items (positive items q) (demandsAt s q) < 2 ^ items
+          by : (f : Bool) → movingSet f items (aboveFloors items q) (demandsAt s q) < 2 ^ items
           by false = demand-bound items (demandsAt s q)
-          by true = supply-bound items (positive items q) (demandsAt s q)
+          by true = supply-bound items (aboveFloors items q) (demandsAt s q)
 
-      module _ (r : Reason) (found : ReasonIs (s .items) (positive (s .items) p) (demands (s .items) (s .bids) p) falls r) where
+      module _ (r : Reason) (found : ReasonIs (s .items) (aboveFloors (s .items) p) (demands (s .items) (s .bids) p) falls r) where
         -- at the path's own prices
-        found-there : ReasonIs items (positive items q) (demandsAt s q) falls r
+        found-there : ReasonIs items (aboveFloors items q) (demandsAt s q) falls r
         found-there =
-            subst (λ (ds : List Demand). ReasonIs items (positive items q) ds falls r)
+            subst (λ (ds : List Demand). ReasonIs items (aboveFloors items q) ds falls r)
             (ap (demands items (s .bids)) here ∙ demands-places items most q (long k) (s .bids))
             (subst (λ (a : ℕ). ReasonIs items a (demands items (s .bids) p) falls r)
-            (ap (positive items) here ∙ positive-places items most q (long k) items) found)
+            (ap (aboveFloors items) here ∙ aboveFloors-places items most q (long k) items) found)
 
         pub line-is : reasonLine (k + 1) (record { kind = r .kind; items = r .items; bidders = r .bidders }) ≡ lineOf s k
         unfolding reasonAt

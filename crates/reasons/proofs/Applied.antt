@@ -8,7 +8,7 @@ use Rattle.sets.specs.Largest.{largestBelow, largest}
 use Rattle.sets.specs.Lists.{tabulate}
 use Rattle.rule.specs.Sheet.{amount, Sheet}
 use Rattle.rule.specs.Demand.{surplusAtLeast, best, demand, demands, wants, nth}
-use Rattle.rule.specs.Excess.{bidders, crowded, inExcess, inPositiveExcess, excessDemand, positiveExcessDemand, excessSupply, positive}
+use Rattle.rule.specs.Excess.{bidders, crowded, inExcess, inPositiveExcess, excessDemand, positiveExcessDemand, excessSupply, aboveFloors}
 use Rattle.rule.specs.Round.{raise, lower, closed, roundFalling, round, move, roundAt, after, opening, path, mostRounds, close}
 use Rattle.rule.specs.Closing.{roundOf}
 use Rattle.rule.specs.Reasons.{biddersWith, reasonOf, reasonAt, roundCount}
@@ -27,7 +27,7 @@ use Rattle.reasons.specs.Sheets.{reasonLine, reasonSheet, reasonsIn, fit
 
 -- the definitions that the cases compute with
 computing : Unit {0}
-unfolding allBelow anyBelow count bit isSet has setOf each any size largestBelow largest tabulate amount surplusAtLeast best demand demands wants nth bidders crowded inExcess inPositiveExcess excessDemand positiveExcessDemand excessSupply positive raise lower roundFalling round move roundAt after opening path biddersWith reasonOf reasonAt digit hex newline joined numberText numberLine reasonLine reasonSheet reasonsIn fitting answerOf
+unfolding allBelow anyBelow count bit isSet has setOf each any size largestBelow largest tabulate amount surplusAtLeast best demand demands wants nth bidders crowded inExcess inPositiveExcess excessDemand positiveExcessDemand excessSupply aboveFloors raise lower roundFalling round move roundAt after opening path biddersWith reasonOf reasonAt digit hex newline joined numberText numberLine reasonLine reasonSheet reasonsIn fitting answerOf
 computing = tt
 
 -- and those by which a bid sheet is read

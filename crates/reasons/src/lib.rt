@@ -5,7 +5,7 @@ ghost use Prim.Native.Nat.{_+_, _*_, _≤_};
 ghost use lib.ListN.{length};
 ghost use lib.Seq.{sets};
 ghost use Rattle.rule.specs.Demand.{demands};
-ghost use Rattle.rule.specs.Excess.{positive};
+ghost use Rattle.rule.specs.Excess.{aboveFloors};
 ghost use Rattle.rule.specs.Round.{close};
 ghost use Rattle.rule.specs.Reasons.{biddersWith, roundCount};
 ghost use Rattle.round.specs.Reports.{reports};
@@ -77,13 +77,13 @@ struct Reason {
 
 // The reason of the round at prices.
 fn reason_at(prices: &[u16; 32], bids: &[u16], items: usize, bidders: usize, falls: bool) -> Reason
-    requires { ⌜ (items ≤ 32) × (bidders ≤ 64) × (length (now bids) ≡ bidders * items) × (positive 32 (now prices) ≡ positive items (now prices)) ⌝ }
-    ensures { λ r. ⌜ ReasonIs items (positive items (now (prices .entry))) (demands items (rowsOf items bidders (now (bids .entry))) (now (prices .entry))) falls r ⌝ }
+    requires { ⌜ (items ≤ 32) × (bidders ≤ 64) × (length (now bids) ≡ bidders * items) × (aboveFloors 32 (now prices) ≡ aboveFloors items (now prices)) ⌝ }
+    ensures { λ r. ⌜ ReasonIs items (aboveFloors items (now (prices .entry))) (demands items (rowsOf items bidders (now (bids .entry))) (now (prices .entry))) falls r ⌝ }
 {
     let d = demands::demands_at(prices, bids, items, bidders);
     let sets = d.sets;
     let nulls = d.nulls;
-    let set = moving(&sets, nulls, round::positive(prices), falls);
+    let set = moving(&sets, nulls, round::above_floors(prices), falls);
     Reason {
         kind: kind(falls),
         items: set,

@@ -1,4 +1,4 @@
--- Fewer than 32 items and 64 bidders: where nothing is reported past m items and n bidders, and no price is above 0 past m, the sets at 32 and 64 are
+-- Fewer than 32 items and 64 bidders: where nothing is reported past m items and n bidders, and every price past m is 0, the sets at 32 and 64 are
 -- those at m and n. Assumes nothing.
 use Prim.Native.Nat.{ℕ, zero, suc, _^_, _≤_, _<_}
 use mathlib.Core.Path.{_≡_, refl, sym, ap, _∙_, subst}
@@ -10,13 +10,14 @@ use native.Mathlib.Nat.{lt-of-lt-of-le}
 use lib.Dec.{ltb}
 use lib.ListN.{length, getD, length-map, List·getD-eq-default}
 use lib.Pow.{pow-mono}
+use borrow.Author.Tests.{le-ltb}
 use Rattle.sets.specs.Count.{_⇒_, allBelow, anyBelow}
 use Rattle.sets.specs.Bit.{isSet, has, setOf, each, any}
 use Rattle.sets.proofs.Counting.{lt-or-le, and-left, and-right, imp-make, not-both, is-false, together, all-use, all-make, any-use, any-make}
 use Rattle.sets.proofs.Members.{isSet-above, empty-has, has-past, setOf-lt, isSet-setOf, is-setOf}
 use Rattle.rule.specs.Sheet.{amount}
 use Rattle.rule.specs.Demand.{Demand, wants, nth}
-use Rattle.rule.specs.Excess.{somethingIn, nothingOutside, excessDemand, positiveExcessDemand, excessSupply, positive}
+use Rattle.rule.specs.Excess.{somethingIn, nothingOutside, excessDemand, positiveExcessDemand, excessSupply, aboveFloors}
 use Rattle.rule.proofs.Profile.{active, inside, active-small}
 use Rattle.rule.proofs.Lower.{rising-wide, positive-wide}
 use Rattle.round.specs.Reports.{reports, Reported}
@@ -30,14 +31,15 @@ setOf-narrow m w f l off = sym (is-setOf w (setOf m f) f (lt-of-lt-of-le (setOf-
     go k lk (inl q) = isSet-setOf m f k q
     go k lk (inr q) = isSet-above m (setOf m f) k (setOf-lt m f) q ∙ sym (off k q lk)
 
--- the items of price above 0 are items
-pub positive-lt : (m : ℕ) (p : List ℕ) → positive m p < 2 ^ m
-unfolding positive
-positive-lt m p = setOf-lt m (λ i. ltb 0 (amount p i))
+-- the items of price above the floor are items
+pub aboveFloors-lt : (m : ℕ) (floors p : List ℕ) → aboveFloors m floors p < 2 ^ m
+unfolding aboveFloors
+aboveFloors-lt m floors p = setOf-lt m (λ i. ltb (amount floors i) (amount p i))
 
-pub positive-narrow : (m : ℕ) (p : List ℕ) → m ≤ 32 → ((k : ℕ) → m ≤ k → getD p k 0 ≡ 0) → positive 32 p ≡ positive m p
-unfolding positive amount
-positive-narrow m p l z = setOf-narrow m 32 (λ i. ltb 0 (amount p i)) l (λ k lo lk. ap (ltb 0) (z k lo))
+pub aboveFloors-narrow : (m : ℕ) (floors p : List ℕ) → m ≤ 32 → ((k : ℕ) → m ≤ k → getD p k 0 ≡ 0) → aboveFloors 32 floors p ≡ aboveFloors m floors p
+unfolding aboveFloors amount
+aboveFloors-narrow m floors p l z =
+    setOf-narrow m 32 (λ i. ltb (amount floors i) (amount p i)) l (λ k lo lk. le-ltb (getD floors k 0) (getD p k 0) (omega (arith, z k lo)))
 
 module _ (m n : ℕ) (sets : List ℕ) (r : Reported m n sets) (nulls : ℕ) where
   len : length (reports n sets nulls) ≡ n

@@ -1,4 +1,4 @@
-// What the rule of a round makes of reports, and the items of price above 0. The reports are held as an item set for each of 64 bidders and the
+// What the rule of a round makes of reports, and the items of price above the floor. The reports are held as an item set for each of 64 bidders and the
 // set of the bidders who say null; prices stand in 32 places. Where there are fewer items and bidders, the places past them hold zeros, and the laws
 // of proofs/ carry each result over.
 ghost use mathlib.Core.Path.{_≡_};
@@ -8,7 +8,7 @@ ghost use lib.Dec.{eqb};
 ghost use lib.ListN.{getD};
 ghost use Rattle.sets.specs.Bit.{has, setOf};
 ghost use Rattle.sets.specs.Lists.{tabulate};
-ghost use Rattle.rule.specs.Excess.{excessDemand, excessSupply, positive};
+ghost use Rattle.rule.specs.Excess.{excessDemand, excessSupply, aboveFloors};
 ghost use Rattle.round.specs.Reports.{reports};
 
 // The set, and item i where `on` says so.
@@ -75,7 +75,7 @@ pub fn rising(sets: &[u32; 64], nulls: u64) -> u32
     matching::excess_demand(&own)
 }
 
-// The falling set of reports, `above` being the items of price above 0. It does not depend on who says null.
+// The falling set of reports, `above` being the items of price above the floor. It does not depend on who says null.
 pub fn falling(sets: &[u32; 64], above: u32) -> u32
     ensures { λ r. ⌜ ((nulls : ℕ) → r ≡ excessSupply 32 above (reports 64 (now (sets .entry)) nulls)) ⌝ }
 {
@@ -84,14 +84,14 @@ pub fn falling(sets: &[u32; 64], above: u32) -> u32
     sets::other_items(above, kept)
 }
 
-// The items of price above 0.
-pub fn positive(prices: &[u16; 32]) -> u32
-    ensures { λ r. ⌜ r ≡ positive 32 (now (prices .entry)) ⌝ }
+// The items of price above the floor.
+pub fn above_floors(floors: &[u16; 32], prices: &[u16; 32]) -> u32
+    ensures { λ r. ⌜ r ≡ aboveFloors 32 (now (floors .entry)) (now (prices .entry)) ⌝ }
 {
     let mut s: u32 = 0;
     let mut i: usize = 0;
     while i < 32 {
-        s = add_item(s, i + 1, 0 < prices[i]);
+        s = add_item(s, i + 1, floors[i] < prices[i]);
         i += 1;
     }
     s

@@ -11,7 +11,7 @@ use Rattle.sets.specs.Largest.{largestBelow, largest}
 use Rattle.sets.specs.Lists.{tabulate}
 use Rattle.rule.specs.Sheet.{amount, Sheet}
 use Rattle.rule.specs.Demand.{surplusAtLeast, best, Demand, demand, demands, wants, nth}
-use Rattle.rule.specs.Excess.{bidders, overdemanded, weaklyUnderdemanded, crowded, inExcess, inPositiveExcess, excessDemand, positiveExcessDemand, excessSupply, positive}
+use Rattle.rule.specs.Excess.{bidders, overdemanded, weaklyUnderdemanded, crowded, inExcess, inPositiveExcess, excessDemand, positiveExcessDemand, excessSupply, aboveFloors}
 use Rattle.rule.specs.Round.{raise, lower, raised, lowered, closed, roundFalling, round, move, roundAt, after, opening, path, mostRounds}
 use Rattle.rule.specs.Assignment.{option, holders, isAssignment, fits, Ahead, over-null}
 use Rattle.rule.specs.Equilibrium.{Below, greatest}
@@ -21,7 +21,7 @@ use Rattle.rule.specs.Former.{formerDemand, formerDemands, formerRoundAt
 
 -- the definitions that the cases compute with
 computing : Unit {0}
-unfolding allBelow anyBelow count bit isSet has setOf each any size largestBelow largest tabulate amount surplusAtLeast best demand demands wants nth bidders overdemanded weaklyUnderdemanded crowded inExcess inPositiveExcess excessDemand positiveExcessDemand excessSupply positive raise lower roundFalling round move roundAt after opening path mostRounds option holders isAssignment fits greatest biddersWith reasonOf reasonAt formerDemand formerDemands formerRoundAt formerAfter formerPath
+unfolding allBelow anyBelow count bit isSet has setOf each any size largestBelow largest tabulate amount surplusAtLeast best demand demands wants nth bidders overdemanded weaklyUnderdemanded crowded inExcess inPositiveExcess excessDemand positiveExcessDemand excessSupply aboveFloors raise lower roundFalling round move roundAt after opening path mostRounds option holders isAssignment fits greatest biddersWith reasonOf reasonAt formerDemand formerDemands formerRoundAt formerAfter formerPath
 computing = tt
 
 -- a demand of these items alone, and one of null beside them
@@ -58,10 +58,15 @@ at-its-bid = refl
 
 -- ---- the sets
 
--- an item of price 0 is not above 0: no falling set has it
-pub not-above : positive 1 (0 ∷ []) ≡ 0
+-- an item that stands at its floor is not above it, whether the floor is 0 or not: no falling set has it
+pub not-above : aboveFloors 2 (0 ∷ 3 ∷ []) (0 ∷ 3 ∷ []) ≡ 0
 unfolding computing
 not-above = refl
+
+-- one above its own floor is, whatever the other's floor
+pub above-own : aboveFloors 2 (3 ∷ 0 ∷ []) (4 ∷ 1 ∷ []) ≡ 3
+unfolding computing
+above-own = refl
 
 -- K4 at (3, 3): two bidders, who demand both of two items, are no more than the items, and both fall
 pub both-fall : excessSupply 2 3 (only 3 ∷ only 3 ∷ []) ≡ 3
@@ -132,12 +137,12 @@ unfolding computing
 one-up = refl
 
 -- K9's first round raises item 1 and leaves item 2, which is in the falling set
-pub one-set : path (record { items = 2; start = 5 ∷ 5 ∷ []; bids = (9 ∷ 2 ∷ []) ∷ (9 ∷ 2 ∷ []) ∷ (9 ∷ 2 ∷ []) ∷ [] }) 1 .prices ≡ 6 ∷ 5 ∷ []
+pub one-set : path (record { items = 2; start = 5 ∷ 5 ∷ []; floors = 0 ∷ 0 ∷ []; bids = (9 ∷ 2 ∷ []) ∷ (9 ∷ 2 ∷ []) ∷ (9 ∷ 2 ∷ []) ∷ [] }) 1 .prices ≡ 6 ∷ 5 ∷ []
 unfolding computing
 one-set = refl
 
 -- K5: both sets are empty, and it closes
-pub closes-at-once : roundOf (record { items = 1; start = 0 ∷ []; bids = (0 ∷ []) ∷ [] }) 0 ≡ closed
+pub closes-at-once : roundOf (record { items = 1; start = 0 ∷ []; floors = 0 ∷ []; bids = (0 ∷ []) ∷ [] }) 0 ≡ closed
 unfolding computing
 closes-at-once = refl
 
@@ -173,7 +178,7 @@ below (suc (suc k)) = omega arith
 
 -- one item at 1, two bidders who bid 2: its one round raised is the rise from 1 to 2
 abbrev pub two : Sheet
-two = record { items = 1; start = 1 ∷ []; bids = (2 ∷ []) ∷ (2 ∷ []) ∷ [] }
+two = record { items = 1; start = 1 ∷ []; floors = 0 ∷ []; bids = (2 ∷ []) ∷ (2 ∷ []) ∷ [] }
 
 pub rise : path two 1 .ups ≡ largestRise two (path two 1 .prices)
 unfolding computing
@@ -202,7 +207,7 @@ unfolding computing
 close-for-nobody = refl
 
 -- one item at 0 and bids of 1 and 2: both demand it alone before the round that raises it, and after that only who bid 2
-pub before-the-round : reasonAt (record { items = 1; start = 0 ∷ []; bids = (1 ∷ []) ∷ (2 ∷ []) ∷ [] }) 0 ≡ record { kind = 1; items = 1; bidders = 3 }
+pub before-the-round : reasonAt (record { items = 1; start = 0 ∷ []; floors = 0 ∷ []; bids = (1 ∷ []) ∷ (2 ∷ []) ∷ [] }) 0 ≡ record { kind = 1; items = 1; bidders = 3 }
 unfolding computing
 before-the-round = refl
 
@@ -229,9 +234,9 @@ unfolding computing
 former-start = refl
 
 -- K5 balanced with the item named
-pub former-named : FormerEquilibrium 1 ((0 ∷ []) ∷ []) (0 ∷ [])
-unfolding computing
-former-named = record { assigned = 1 ∷ []; balances = refl }
+pub former-named : FormerEquilibrium 1 (0 ∷ []) ((0 ∷ []) ∷ []) (0 ∷ [])
+unfolding computing Below
+former-named = record { from-floors = λ i. omega arith; assigned = 1 ∷ []; balances = refl }
 
 -- two bidders who bid 0 for the one item at price 0: if it were an item of price above 0, S~ would have it without #102, and not with it. So that both sets are the
 -- same (`Zeros.same-positive`) is true only where the items of `above` have prices above 0

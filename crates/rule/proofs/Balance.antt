@@ -11,13 +11,12 @@ use Rattle.sets.specs.Count.{count}
 use Rattle.sets.specs.Bit.{has}
 use Rattle.sets.specs.Sum.{sum}
 use Rattle.sets.proofs.Counting.{count-mono, and-left}
-use Rattle.sets.proofs.Sums.{sum-zero}
 use Rattle.rule.specs.Sheet.{amount, row}
 use Rattle.rule.specs.Demand.{Demand, demands, wants}
-use Rattle.rule.specs.Excess.{excessDemand, excessSupply, positive}
-use Rattle.rule.specs.Assignment.{option, isAssignment, fits, total, NotAfter, assignment}
+use Rattle.rule.specs.Excess.{excessDemand, excessSupply, aboveFloors}
+use Rattle.rule.specs.Assignment.{option, isAssignment, fits, total, floorTotal, NotAfter, assignment}
 use Rattle.rule.specs.Equilibrium.{Equilibrium, Below}
-use Rattle.rule.proofs.Limits.{amount-null, prices-ext, below-all, positive-at, positive-up}
+use Rattle.rule.proofs.Limits.{amount-null, prices-ext, below-all, aboveFloors-at, aboveFloors-up}
 use Rattle.rule.proofs.Union.{Part, likes, Crowd, sub}
 use Rattle.rule.proofs.Existence.{assignment-fits}
 use Rattle.rule.proofs.Surplus.{wants-use, bidOf, wanted, lowest-prices}
@@ -87,45 +86,52 @@ highest-above m bids p xs above low low-le is-above e ys a =
     (λ i l h. f .covers i l (is-above i l h))
     (option ys) (y .small) (y .once)
 
-pub highest-total : (m : ℕ) (bids : List (List ℕ)) (p xs : List ℕ) → fits m (positive m p) (demands m bids p) xs ≡ true
-    → (ys : List ℕ) → isAssignment m (length bids) ys ≡ true → total bids ys ≤ total bids xs
-highest-total m bids p xs e ys a =
+pub highest-total : (m : ℕ) (floors : List ℕ) (bids : List (List ℕ)) (p xs : List ℕ) → Below floors p → fits m (aboveFloors m floors p) (demands m bids p) xs ≡ true
+    → (ys : List ℕ) → isAssignment m (length bids) ys ≡ true → total bids ys + floorTotal floors xs ≤ total bids xs + floorTotal floors ys
+unfolding Below floorTotal
+highest-total m floors bids p xs low e ys a =
+    let f = fits-at m bids p (aboveFloors m floors p) xs e in
+    let y = assigns-use m (length bids) ys a in
     omega (
       arith,
-      highest-above m bids p xs (positive m p) (λ i. 0) (λ i l. omega arith) (positive-at m p) e ys a,
-      sum-zero (length bids) (λ b. 0) (λ k l. refl),
+      highest-above m bids p xs (aboveFloors m floors p) (amount floors) (λ i l. low i) (aboveFloors-at m floors p) e ys a,
+      ap (λ (n : ℕ). sum n (λ b. amount floors (option xs b))) (f .assigns .all),
+      ap (λ (n : ℕ). sum n (λ b. amount floors (option ys b))) (y .all),
     )
 
 -- ---- prices at which the falling set is empty are nowhere above prices that balance, where `above` has each item that is cheaper there
 
-pub least-prices : (m : ℕ) (bids : List (List ℕ)) (p : List ℕ) (above : ℕ) → ((i : ℕ) → i < suc m → has above i ≡ true → 0 < amount p i)
+pub least-prices : (m : ℕ) (floors : List ℕ) (bids : List (List ℕ)) (p : List ℕ) (above : ℕ) → ((i : ℕ) → i < suc m → has above i ≡ true → 0 < amount p i)
     → excessSupply m above (demands m bids p) ≡ 0 → (q : List ℕ) → ((i : ℕ) → i < suc m → amount q i < amount p i → has above i ≡ true)
-    → Equilibrium m bids q → (i : ℕ) → i < suc m → amount p i ≤ amount q i
+    → Equilibrium m floors bids q → (i : ℕ) → i < suc m → amount p i ≤ amount q i
 unfolding Part
-least-prices m bids p above up no-supply q cheaper eq =
-    let f = fits-at m bids q (positive m q) (eq .assigned) (eq .balances) in
+least-prices m floors bids p above up no-supply q cheaper eq =
+    let f = fits-at m bids q (aboveFloors m floors q) (eq .assigned) (eq .balances) in
     lowest-prices m (length bids) (bidOf bids) (amount p) (amount q) (amount-null p)
     (λ a z i l e less. crowd-above m bids p above up no-supply a z i l e (λ j lj u. cheaper j lj (less j lj u)))
     (option (eq .assigned)) (f .assigns .small) (f .wanted) (f .assigns .once)
 
--- ---- the closing prices of items of price 0 or more
+-- ---- the closing prices of items at or above their floors
 
-module _ (m : ℕ) (bids : List (List ℕ)) (p : List ℕ) (lm : m ≤ 32) (ln : length bids ≤ 64) (len : length p ≡ m)
-    (no-excess : excessDemand m (demands m bids p) ≡ 0) (no-supply : excessSupply m (positive m p) (demands m bids p) ≡ 0) where
-  pub balances : Equilibrium m bids p
-  balances = record { assigned = assignment m (positive m p) (demands m bids p); balances = first-fits m bids p (positive m p) no-excess no-supply lm ln }
+module _ (m : ℕ) (floors : List ℕ) (bids : List (List ℕ)) (p : List ℕ) (lm : m ≤ 32) (ln : length bids ≤ 64) (len : length p ≡ m) (low : Below floors p)
+    (no-excess : excessDemand m (demands m bids p) ≡ 0) (no-supply : excessSupply m (aboveFloors m floors p) (demands m bids p) ≡ 0) where
+  pub balances : Equilibrium m floors bids p
+  balances = record { from-floors = low; assigned = assignment m (aboveFloors m floors p) (demands m bids p); balances = first-fits m bids p (aboveFloors m floors p) no-excess no-supply lm ln }
 
   -- they are the least prices that balance
-  pub least-balance : (q : List ℕ) → Equilibrium m bids q → Below p q
+  pub least-balance : (q : List ℕ) → Equilibrium m floors bids q → Below p q
+  unfolding Below
   least-balance q eq =
       below-all m p q len
-      (least-prices m bids p (positive m p) (positive-up m p) no-supply q (λ i l h. positive-at m p i l (omega arith)) eq)
+      (least-prices m floors bids p (aboveFloors m floors p) (aboveFloors-up m floors p) no-supply q
+      (λ i l h. aboveFloors-at m floors p i l (omega (arith, eq .from-floors i))) eq)
 
-  -- and the only ones at which both sets are empty
-  pub only-prices : (q : List ℕ) → length q ≡ m → excessDemand m (demands m bids q) ≡ 0 → excessSupply m (positive m q) (demands m bids q) ≡ 0 → q ≡ p
-  only-prices q lq eq sq =
+  -- and the only ones at or above the floors at which both sets are empty
+  pub only-prices : (q : List ℕ) → length q ≡ m → Below floors q → excessDemand m (demands m bids q) ≡ 0 → excessSupply m (aboveFloors m floors q) (demands m bids q) ≡ 0 → q ≡ p
+  unfolding Below
+  only-prices q lq fq eq sq =
       prices-ext m q p lq len
       (λ i l. le-antisymm
-      (least-prices m bids q (positive m q) (positive-up m q) sq p (λ j lj h. positive-at m q j lj (omega arith)) balances i l)
-      (least-prices m bids p (positive m p) (positive-up m p) no-supply q (λ j lj h. positive-at m p j lj (omega arith))
-      (record { assigned = assignment m (positive m q) (demands m bids q); balances = first-fits m bids q (positive m q) eq sq lm ln }) i l))
+      (least-prices m floors bids q (aboveFloors m floors q) (aboveFloors-up m floors q) sq p (λ j lj h. aboveFloors-at m floors q j lj (omega (arith, low j))) balances i l)
+      (least-prices m floors bids p (aboveFloors m floors p) (aboveFloors-up m floors p) no-supply q (λ j lj h. aboveFloors-at m floors p j lj (omega (arith, fq j)))
+      (record { from-floors = fq; assigned = assignment m (aboveFloors m floors q) (demands m bids q); balances = first-fits m bids q (aboveFloors m floors q) eq sq lm ln }) i l))

@@ -16,7 +16,8 @@ use Rattle.sets.proofs.Counting.{count-mono, and-left, and-right, and-both, imp
 use Rattle.sets.proofs.Members.{agree, has-zero, none-zero, size-count}
 use Rattle.rule.specs.Sheet.{Sheet}
 use Rattle.rule.specs.Demand.{Demand, demands, wants, nth}
-use Rattle.rule.specs.Excess.{bidders, nonEmptyPart, somethingIn, nothingOutside, nothingAboveOutside, overdemanded, weaklyUnderdemanded, crowded, inExcess, excessDemand, positive, positiveExcessDemand, excessSupply}
+use Rattle.rule.specs.Excess.{bidders, nonEmptyPart, somethingIn, nothingOutside, nothingAboveOutside, overdemanded, weaklyUnderdemanded, crowded, inExcess, excessDemand, aboveFloors, positiveExcessDemand, excessSupply}
+use Rattle.rule.specs.Equilibrium.{Below}
 use Rattle.rule.specs.Closing.{demandsAt, excessDemandAt, excessSupplyAt, Closing}
 use Rattle.rule.proofs.Union.{Part, likes, likes-use, likes-make, Crowd, sub, sub-use, sub-make}
 use Rattle.rule.proofs.Tests.{CrowdOf, crowded-use, crowded-make, crowd-mono}
@@ -161,7 +162,7 @@ pub rising-empty-at : (m : ℕ) (bids : List (List ℕ)) (prices : List ℕ)
     → eqb (excessDemand m (demands m bids prices)) 0 ≡ allBelow (2 ^ m) λ s. not (overdemanded m (demands m bids prices) s)
 rising-empty-at m bids prices = rising-empty m (demands m bids prices) (demands-some m bids prices)
 
--- ---- theorem 1 of the paper: at the closing prices no set is overdemanded and none weakly underdemanded, and at no others
+-- ---- theorem 1 of the paper: at the closing prices no set is overdemanded and none weakly underdemanded, and at no others from the floors up
 
 module _ (s : Sheet) where
   -- the paper's OD(p) is empty, and its UD(p)
@@ -169,16 +170,16 @@ module _ (s : Sheet) where
   noneOver p = allBelow (2 ^ (s .items)) λ x. not (overdemanded (s .items) (demandsAt s p) x)
 
   abbrev pub noneUnder : List ℕ → Bool
-  noneUnder p = allBelow (2 ^ (s .items)) λ x. not (weaklyUnderdemanded (s .items) (positive (s .items) p) (demandsAt s p) x)
+  noneUnder p = allBelow (2 ^ (s .items)) λ x. not (weaklyUnderdemanded (s .items) (aboveFloors (s .items) (s .floors) p) (demandsAt s p) x)
 
   pub at-close : (c : Closing s) → (noneOver (c .prices) ≡ true) × (noneUnder (c .prices) ≡ true)
   at-close c = (
     sym (rising-empty-at (s .items) (s .bids) (c .prices)) ∙ eq-eqb _ 0 (c .no-excess),
-    sym (falling-empty (s .items) (positive (s .items) (c .prices)) (demandsAt s (c .prices))) ∙ eq-eqb _ 0 (c .no-supply),
+    sym (falling-empty (s .items) (aboveFloors (s .items) (s .floors) (c .prices)) (demandsAt s (c .prices))) ∙ eq-eqb _ 0 (c .no-supply),
   )
 
-  pub only-at-close : (c : Closing s) (q : List ℕ) → length q ≡ s .items → noneOver q ≡ true → noneUnder q ≡ true → q ≡ c .prices
-  only-at-close c q long over under =
-      c .unique q long
+  pub only-at-close : (c : Closing s) (q : List ℕ) → length q ≡ s .items → Below (s .floors) q → noneOver q ≡ true → noneUnder q ≡ true → q ≡ c .prices
+  only-at-close c q long low over under =
+      c .unique q long low
       (eqb-true (excessDemandAt s q) 0 (rising-empty-at (s .items) (s .bids) q ∙ over))
-      (eqb-true (excessSupplyAt s q) 0 (falling-empty (s .items) (positive (s .items) q) (demandsAt s q) ∙ under))
+      (eqb-true (excessSupplyAt s q) 0 (falling-empty (s .items) (aboveFloors (s .items) (s .floors) q) (demandsAt s q) ∙ under))

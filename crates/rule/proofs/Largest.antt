@@ -16,8 +16,8 @@ use Rattle.sets.specs.Largest.{largest}
 use Rattle.sets.proofs.Largest.{Largest, largest-is}
 use Rattle.rule.specs.Sheet.{amount}
 use Rattle.rule.specs.Demand.{Demand, wants, nth}
-use Rattle.rule.specs.Excess.{nothingAboveOutside, crowded, inExcess, inPositiveExcess, excessDemand, positive, positiveExcessDemand, excessSupply}
-use Rattle.rule.proofs.Limits.{positive-up}
+use Rattle.rule.specs.Excess.{nothingAboveOutside, crowded, inExcess, inPositiveExcess, excessDemand, aboveFloors, positiveExcessDemand, excessSupply}
+use Rattle.rule.proofs.Limits.{aboveFloors-over}
 use Rattle.rule.proofs.Union.{Part, Crowd, union}
 use Rattle.rule.proofs.Tests.{CrowdOf, crowded-use, crowded-make}
 
@@ -212,6 +212,7 @@ module _ (m above : ℕ) (ds : List Demand) where
   supply-bound = setOf-lt m (λ i. has above i && not (has (positiveExcessDemand m above ds) i))
 
 -- an item of the falling set has a price above 0
-pub supply-positive : (m : ℕ) (p : List ℕ) (ds : List Demand) (i : ℕ) → i < suc m → has (excessSupply m (positive m p) ds) i ≡ true → 0 < amount p i
-supply-positive m p ds i l e =
-    positive-up m p i l (and-left (has (positive m p) i) (not (has (positiveExcessDemand m (positive m p) ds) i)) (sym (supply-has m (positive m p) ds i l) ∙ e))
+pub supply-above : (m : ℕ) (floors p : List ℕ) (ds : List Demand) (i : ℕ) → i < suc m → has (excessSupply m (aboveFloors m floors p) ds) i ≡ true
+    → amount floors i < amount p i
+supply-above m floors p ds i l e =
+    aboveFloors-over m floors p i l (and-left (has (aboveFloors m floors p) i) (not (has (positiveExcessDemand m (aboveFloors m floors p) ds) i)) (sym (supply-has m (aboveFloors m floors p) ds i l) ∙ e))

@@ -14,7 +14,7 @@ use Rattle.sets.proofs.Counting.{count-cong, and-right}
 use Rattle.sets.proofs.Members.{isSet-setOf, setOf-cong, setOf-lt}
 use Rattle.rule.specs.Sheet.{Sheet}
 use Rattle.rule.specs.Demand.{Demand, demands, nth}
-use Rattle.rule.specs.Excess.{bidders, nonEmptyPart, somethingIn, nothingOutside, overdemanded, weaklyUnderdemanded, excessDemand, excessSupply, positive}
+use Rattle.rule.specs.Excess.{bidders, nonEmptyPart, somethingIn, nothingOutside, overdemanded, weaklyUnderdemanded, excessDemand, excessSupply, aboveFloors}
 use Rattle.rule.specs.Round.{Phase, Round, raised, lowered, closed, round, State, roundAt, path}
 use Rattle.rule.specs.Closing.{demandsAt, excessDemandAt, excessSupplyAt, Closing}
 use Rattle.rule.specs.Reasons.{biddersWith, Reason, reasonOf, reasonAt, roundCount, Justified}
@@ -120,7 +120,7 @@ module _ (s : Sheet) (k : ℕ) where
   unfolding reasonAt roundAt demands
   in-path P h =
       subst (λ (n : ℕ). P n (reasonAt s k)) (length-map (s .bids) _)
-      (h (positive (s .items) (path s k .prices)) (demandsAt s (path s k .prices)) (path s k .phase))
+      (h (aboveFloors (s .items) (s .floors) (path s k .prices)) (demandsAt s (path s k .prices)) (path s k .phase))
 
   pub path-justified : Justified (s .items) (length (s .bids)) (reasonAt s k)
   path-justified = in-path (Justified (s .items)) (justified (s .items))
@@ -144,7 +144,7 @@ module _ (s : Sheet) (c : Closing s) where
   unfolding reasonAt reasonOf
   no-reason k =
       let last : ℕ = c .ups + c .downs in
-      ap (reasonOf (s .items) (demandsAt s (path s (last + k) .prices))) (ap (roundAt (s .items) (s .bids)) (c .stays k) ∙ c .closes)
+      ap (reasonOf (s .items) (demandsAt s (path s (last + k) .prices))) (ap (roundAt (s .items) (s .floors) (s .bids)) (c .stays k) ∙ c .closes)
 
   pub count-is : roundCount s ≡ c .ups + c .downs
   unfolding roundCount

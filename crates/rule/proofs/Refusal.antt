@@ -1,18 +1,18 @@
 -- The first number in order: a condition that fails is passed over, and one that holds gives its number. And what it says that a condition holds or fails:
--- a count outside 1 to the top, a length that is not exact, an amount above 4,095. Assumes nothing.
+-- a count outside 1 to the top, a length that is not exact, an amount above 4,095, a price below its floor. Assumes nothing.
 use Prim.Native.Nat.{ℕ, suc, _≤_, _<_}
 use mathlib.Core.Path.{_≡_, refl, ap}
-use mathlib.Core.Bool.{Bool, true, false, not}
+use mathlib.Core.Bool.{Bool, true, false, _||_, not}
 use mathlib.Core.List.{List, [], _∷_}
 use mathlib.Core.Logic.{_⊎_, inl, inr}
 use native.Mathlib.Omega.{arith}
 use lib.Dec.{ltb, eqb}
-use lib.ListN.{length, getD}
+use lib.ListN.{length, getD, List·getD-eq-default}
 use borrow.Author.Tests.{ltb-true, ltb-false, lt-ltb, le-ltb, eqb-true, eq-eqb, ne-eqb, not-false}
 use Rattle.sets.specs.Count.{anyBelow}
 use Rattle.sets.specs.Bit.{outside}
 use Rattle.sets.proofs.Counting.{lt-or-le, or-left-false, or-right-false, any-use, any-make, is-false, not-both}
-use Rattle.rule.specs.Refusal.{Refusal, on, first, badLength, anyOver}
+use Rattle.rule.specs.Refusal.{Refusal, on, first, badLength, anyOver, anyUnder, badFloors}
 
 pub passed : (n : ℕ) (a : Bool) (rest : List Refusal) → a ≡ false → first (on n a ∷ rest) ≡ first rest
 unfolding first
@@ -84,3 +84,44 @@ over-not xs h =
     let more = ltb-true 4095 (getD xs (w .0) 0) (w .2) in
     let most = h (w .0) (w .1) in
     omega arith)
+
+-- ---- prices below their floors
+
+pub none-under : (xs floors : List ℕ) → anyUnder xs floors ≡ false → (k : ℕ) → getD floors k 0 ≤ getD xs k 0
+unfolding anyUnder
+none-under xs floors e k = go (lt-or-le k (length floors)) (lt-or-le (getD xs k 0) (getD floors k 0))
+  where
+    test : ℕ → Bool
+    test k = ltb (getD xs k 0) (getD floors k 0)
+
+    go : (k < length floors) ⊎ (length floors ≤ k) → (getD xs k 0 < getD floors k 0) ⊎ (getD floors k 0 ≤ getD xs k 0) → getD floors k 0 ≤ getD xs k 0
+    go l (inr q) = q
+    go (inr l) (inl q) = omega (arith, List·getD-eq-default floors 0 {n = k} l)
+    go (inl l) (inl q) = absurd (not-both (anyBelow (length floors) test) (any-make (length floors) test k l (lt-ltb (getD xs k 0) (getD floors k 0) q)) e)
+
+pub under-not : (xs floors : List ℕ) → ((k : ℕ) → k < length floors → getD floors k 0 ≤ getD xs k 0) → anyUnder xs floors ≡ false
+unfolding anyUnder
+under-not xs floors h =
+    is-false (anyBelow (length floors) (λ k. ltb (getD xs k 0) (getD floors k 0))) (λ e.
+    let w = any-use (length floors) (λ k. ltb (getD xs k 0) (getD floors k 0)) e in
+    let less = ltb-true (getD xs (w .0) 0) (getD floors (w .0) 0) (w .2) in
+    let most = h (w .0) (w .1) in
+    omega arith)
+
+pub under-some : (xs floors : List ℕ) (k : ℕ) → k < length floors → getD xs k 0 < getD floors k 0 → anyUnder xs floors ≡ true
+unfolding anyUnder
+under-some xs floors k l h = any-make (length floors) (λ k. ltb (getD xs k 0) (getD floors k 0)) k l (lt-ltb (getD xs k 0) (getD floors k 0) h)
+
+-- where no starting price is above 4,095, a floor above 4,095 is above its starting price: 18's two halves are one test
+pub floors-test : (start floors : List ℕ) → ((k : ℕ) → getD start k 0 ≤ 4095) → badFloors start floors ≡ anyUnder start floors
+unfolding badFloors
+floors-test start floors most = go (anyUnder start floors) refl
+  where
+    go : (b : Bool) → anyUnder start floors ≡ b → b || anyOver floors ≡ b
+    go true e = refl
+    go false e = over-not floors (λ k l. omega (arith, none-under start floors e k, most k))
+
+pub floors-fit : (start floors : List ℕ) → badFloors start floors ≡ false → ((k : ℕ) → getD floors k 0 ≤ getD start k 0) × ((k : ℕ) → k < length floors → getD floors k 0 ≤ 4095)
+unfolding badFloors
+floors-fit start floors e =
+    (none-under start floors (or-left-false (anyUnder start floors) (anyOver floors) e), none-over floors (or-right-false (anyUnder start floors) (anyOver floors) e))

@@ -15,29 +15,30 @@ use Rattle.sets.specs.Lists.{tabulate}
 use Rattle.sets.proofs.Lists.{tabulate-length, tabulate-at}
 use Rattle.rule.specs.Sheet.{amount, row}
 use Rattle.rule.specs.Demand.{Demand, best, surplusAtLeast, demand, demands, wants, nth}
-use Rattle.rule.specs.Excess.{positive}
+use Rattle.rule.specs.Excess.{aboveFloors}
 use Rattle.rule.specs.Assignment.{option}
-use Rattle.rule.specs.Equilibrium.{Equilibrium}
+use Rattle.rule.specs.Equilibrium.{Below, Equilibrium}
 use Rattle.rule.specs.Former.{formerDemands, FormerEquilibrium}
-use Rattle.rule.proofs.Limits.{positive-up}
+use Rattle.rule.proofs.Limits.{aboveFloors-up}
 use Rattle.rule.proofs.Surplus.{wantsAt, bidOf, wanted}
 use Rattle.rule.proofs.Zeros.{zero-price, zero-null, null-is, best-demanded}
 use Rattle.rule.proofs.AtPrices.{nth-demands, demands-length, former-length, former-wanted}
 use Rattle.rule.proofs.Fitting.{Fits, fits-to, fits-from}
 use Rattle.rule.proofs.Balance.{fits-at}
 
-module _ (m : ℕ) (bids : List (List ℕ)) (q : List ℕ) where
-  pub to-former : Equilibrium m bids q → FormerEquilibrium m bids q
+module _ (m : ℕ) (floors : List ℕ) (bids : List (List ℕ)) (q : List ℕ) where
+  pub to-former : Equilibrium m floors bids q → FormerEquilibrium m floors bids q
   to-former e =
       record {
+        from-floors = e .from-floors;
         assigned = e .assigned;
         balances =
-            fits-from m (length bids) (positive m q) (formerDemands m bids q) (former-length m bids q) (wanted m bids q) (e .assigned)
-            (λ b i lb li w. former-wanted m bids q b i lb li ∙ w) (fits-at m bids q (positive m q) (e .assigned) (e .balances));
+            fits-from m (length bids) (aboveFloors m floors q) (formerDemands m bids q) (former-length m bids q) (wanted m bids q) (e .assigned)
+            (λ b i lb li w. former-wanted m bids q b i lb li ∙ w) (fits-at m bids q (aboveFloors m floors q) (e .assigned) (e .balances));
       }
 
   -- back: whoever has an item that they bid 0 for has null instead
-  module _ (xs : List ℕ) (f : Fits m (length bids) (wanted m bids q) (has (positive m q)) xs) where
+  module _ (xs : List ℕ) (low : Below floors q) (f : Fits m (length bids) (wanted m bids q) (has (aboveFloors m floors q)) xs) where
     abbrev kept : ℕ → ℕ
     kept b = cond (eqb (amount (row bids b) (option xs b)) 0) 0 (option xs b)
 
@@ -92,22 +93,23 @@ module _ (m : ℕ) (bids : List (List ℕ)) (q : List ℕ) where
         go (inr w) = ap (wants (demand m q (row bids b))) (w .0) ∙ best-demanded m q (row bids b) (option xs b) (f .assigns .small b l) (w .1) (best-at b l)
 
     -- an item with bid 0 was at price 0
-    given-covers : (i : ℕ) → i < suc m → has (positive m q) i ≡ true → (b : ℕ) × (b < length bids) × (option given b ≡ i)
+    given-covers : (i : ℕ) → i < suc m → has (aboveFloors m floors q) i ≡ true → (b : ℕ) × (b < length bids) × (option given b ≡ i)
     given-covers i l e = go (f .covers i l e)
       where
         go : ((b : ℕ) × (b < length bids) × (option xs b ≡ i)) → (b : ℕ) × (b < length bids) × (option given b ≡ i)
         go c = pick (split (c .0) (c .1))
           where
             pick : Split (c .0) → (b : ℕ) × (b < length bids) × (option given b ≡ i)
-            pick (inl w) = absurd (omega (arith, positive-up m q i l e, zero-price m q (row bids (c .0)) (option xs (c .0)) (best-at (c .0) (c .1)) (w .1), ap (amount q) (c .2)))
+            pick (inl w) = absurd (omega (arith, aboveFloors-up m floors q i l e, zero-price m q (row bids (c .0)) (option xs (c .0)) (best-at (c .0) (c .1)) (w .1), ap (amount q) (c .2)))
             pick (inr w) = (c .0, c .1, w .0 ∙ c .2)
 
-    given-balances : Equilibrium m bids q
+    given-balances : Equilibrium m floors bids q
     given-balances =
         record {
+          from-floors = low;
           assigned = given;
           balances =
-              fits-from m (length bids) (positive m q) (demands m bids q) (demands-length m bids q) (λ b. wants (nth (demands m bids q) b)) given (λ b i lb li w. w)
+              fits-from m (length bids) (aboveFloors m floors q) (demands m bids q) (demands-length m bids q) (λ b. wants (nth (demands m bids q) b)) given (λ b i lb li w. w)
               (record {
                 assigns = record { all = tabulate-length (length bids) kept 0; small = given-small; once = given-once };
                 wanted = given-wanted;
@@ -115,8 +117,8 @@ module _ (m : ℕ) (bids : List (List ℕ)) (q : List ℕ) where
               });
         }
 
-  pub from-former : FormerEquilibrium m bids q → Equilibrium m bids q
+  pub from-former : FormerEquilibrium m floors bids q → Equilibrium m floors bids q
   from-former e =
-      given-balances (e .assigned)
-      (fits-to m (length bids) (positive m q) (formerDemands m bids q) (former-length m bids q) (wanted m bids q) (e .assigned)
+      given-balances (e .assigned) (e .from-floors)
+      (fits-to m (length bids) (aboveFloors m floors q) (formerDemands m bids q) (former-length m bids q) (wanted m bids q) (e .assigned)
       (λ b i lb li w. sym (former-wanted m bids q b i lb li) ∙ w) (e .balances))

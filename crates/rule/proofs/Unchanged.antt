@@ -11,14 +11,14 @@ use Rattle.sets.proofs.Counting.{not-both, is-false, any-cong}
 use Rattle.sets.proofs.Members.{setOf-cong, has-zero}
 use Rattle.rule.specs.Sheet.{amount, row, Sheet}
 use Rattle.rule.specs.Demand.{Demand, demand, demands, wants, nth}
-use Rattle.rule.specs.Excess.{somethingIn, nothingOutside, excessDemand, excessSupply, positive}
+use Rattle.rule.specs.Excess.{somethingIn, nothingOutside, excessDemand, excessSupply, aboveFloors}
 use Rattle.rule.specs.Round.{Phase, rising, falling, raised, lowered, closed, roundFalling, round, State, move, roundAt, after, opening, path, mostRounds, close}
 use Rattle.rule.specs.Reasons.{biddersWith, reasonOf, reasonAt}
 use Rattle.rule.specs.Former.{formerDemand, formerDemands, formerRoundAt, formerAfter, formerPath, formerClose, formerReasonAt, Unchanged}
-use Rattle.rule.proofs.Limits.{positive-up}
+use Rattle.rule.proofs.Limits.{aboveFloors-up}
 use Rattle.rule.proofs.Union.{Part}
 use Rattle.rule.proofs.Tests.{outside-use}
-use Rattle.rule.proofs.Largest.{supply-positive}
+use Rattle.rule.proofs.Largest.{supply-above}
 use Rattle.rule.proofs.Reasons.{of-each}
 use Rattle.rule.proofs.SameBalance.{to-former, from-former}
 use Rattle.rule.proofs.Zeros.{same-but-null, same-above, same-rising, same-falling}
@@ -34,22 +34,22 @@ by-sets m above ds es e f rising =
     ap₂ (λ (x y : ℕ). elim x [ suc k ↦ raised (suc k) | zero ↦ elim y [ suc k ↦ lowered (suc k) | zero ↦ closed ] ]) e f
 by-sets m above ds es e f falling = ap (λ (y : ℕ). elim y [ suc k ↦ lowered (suc k) | zero ↦ closed ]) f
 
-module _ (m : ℕ) (bids : List (List ℕ)) where
-  pub same-round : (t : State) → roundAt m bids t ≡ formerRoundAt m bids t
+module _ (m : ℕ) (floors : List ℕ) (bids : List (List ℕ)) where
+  pub same-round : (t : State) → roundAt m floors bids t ≡ formerRoundAt m floors bids t
   unfolding roundAt formerRoundAt
   same-round t =
-      by-sets m (positive m (t .prices)) (demands m bids (t .prices)) (formerDemands m bids (t .prices))
-      (same-rising m bids (t .prices)) (same-falling m bids (t .prices) (positive m (t .prices)) (positive-up m (t .prices))) (t .phase)
+      by-sets m (aboveFloors m floors (t .prices)) (demands m bids (t .prices)) (formerDemands m bids (t .prices))
+      (same-rising m bids (t .prices)) (same-falling m bids (t .prices) (aboveFloors m floors (t .prices)) (aboveFloors-up m floors (t .prices))) (t .phase)
 
-  same-after : (t : State) (k : ℕ) → after m bids t k ≡ formerAfter m bids t k
+  same-after : (t : State) (k : ℕ) → after m floors bids t k ≡ formerAfter m floors bids t k
   unfolding after formerAfter
   same-after t zero = refl
   same-after t (suc k) =
-      ap (λ (x : State). move m x (roundAt m bids x)) (same-after t k) ∙ ap (move m (formerAfter m bids t k)) (same-round (formerAfter m bids t k))
+      ap (λ (x : State). move m x (roundAt m floors bids x)) (same-after t k) ∙ ap (move m (formerAfter m floors bids t k)) (same-round (formerAfter m floors bids t k))
 
 same-path : (s : Sheet) (k : ℕ) → path s k ≡ formerPath s k
 unfolding path formerPath
-same-path s k = same-after (s .items) (s .bids) (opening (s .start)) k
+same-path s k = same-after (s .items) (s .floors) (s .bids) (opening (s .start)) k
 
 -- ---- reasons
 
@@ -89,20 +89,20 @@ module _ (m : ℕ) (bids : List (List ℕ)) (p : List ℕ) where
   unfolding reasonOf
   same-none = refl
 
-  pub same-reason : (ph : Phase)
-      → reasonOf m (demands m bids p) (round m (positive m p) (demands m bids p) ph) ≡ reasonOf m (formerDemands m bids p) (round m (positive m p) (demands m bids p) ph)
-  same-reason =
-      of-each m (positive m p) (demands m bids p) (λ x. reasonOf m (demands m bids p) x ≡ reasonOf m (formerDemands m bids p) x)
+  pub same-reason : (floors : List ℕ) (ph : Phase)
+      → reasonOf m (demands m bids p) (round m (aboveFloors m floors p) (demands m bids p) ph) ≡ reasonOf m (formerDemands m bids p) (round m (aboveFloors m floors p) (demands m bids p) ph)
+  same-reason floors =
+      of-each m (aboveFloors m floors p) (demands m bids p) (λ x. reasonOf m (demands m bids p) x ≡ reasonOf m (formerDemands m bids p) x)
       (λ ne. same-rise (excessDemand m (demands m bids p)))
-      (λ ne. same-fall (excessSupply m (positive m p) (demands m bids p)) (supply-positive m p (demands m bids p)))
+      (λ ne. same-fall (excessSupply m (aboveFloors m floors p) (demands m bids p)) (λ i l e. omega (arith, supply-above m floors p (demands m bids p) i l e)))
       same-none
 
 same-path-reason : (s : Sheet) (k : ℕ) → reasonAt s k ≡ formerReasonAt s k
 unfolding reasonAt formerReasonAt roundAt
 same-path-reason s k =
-    same-reason (s .items) (s .bids) (path s k .prices) (path s k .phase)
-    ∙ ap (reasonOf (s .items) (formerDemands (s .items) (s .bids) (path s k .prices))) (same-round (s .items) (s .bids) (path s k))
-    ∙ ap (λ (t : State). reasonOf (s .items) (formerDemands (s .items) (s .bids) (t .prices)) (formerRoundAt (s .items) (s .bids) t)) (same-path s k)
+    same-reason (s .items) (s .bids) (path s k .prices) (s .floors) (path s k .phase)
+    ∙ ap (reasonOf (s .items) (formerDemands (s .items) (s .bids) (path s k .prices))) (same-round (s .items) (s .floors) (s .bids) (path s k))
+    ∙ ap (λ (t : State). reasonOf (s .items) (formerDemands (s .items) (s .bids) (t .prices)) (formerRoundAt (s .items) (s .floors) (s .bids) t)) (same-path s k)
 
 -- ---- and which prices balance
 
@@ -112,8 +112,8 @@ unchanged s =
     record {
       states = same-path s;
       closes = same-path s mostRounds;
-      rounds = λ k. same-round (s .items) (s .bids) (path s k) ∙ ap (formerRoundAt (s .items) (s .bids)) (same-path s k);
+      rounds = λ k. same-round (s .items) (s .floors) (s .bids) (path s k) ∙ ap (formerRoundAt (s .items) (s .floors) (s .bids)) (same-path s k);
       reasons = same-path-reason s;
-      balance = to-former (s .items) (s .bids);
-      balance-back = from-former (s .items) (s .bids);
+      balance = to-former (s .items) (s .floors) (s .bids);
+      balance-back = from-former (s .items) (s .floors) (s .bids);
     }

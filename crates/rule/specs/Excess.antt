@@ -31,12 +31,12 @@ nothingOutside m s d = each m λ i. wants d i ⇒ has s i
 unfoldable pub overdemanded : ℕ → List Demand → ℕ → Bool
 overdemanded m ds s = ltb (size m s) (bidders ds (nothingOutside m s))
 
--- s is weakly underdemanded: it is not empty, holds only items of `above`, which are those of price above 0, and no more bidders than s has items demand
+-- s is weakly underdemanded: it is not empty, holds only items of `above`, which are those of price above the floor, and no more bidders than s has items demand
 -- something in s. Definition 3 of the paper, which admits the empty set; document 01: non-empty is meant
 unfoldable pub weaklyUnderdemanded : ℕ → ℕ → List Demand → ℕ → Bool
 weaklyUnderdemanded m above ds s = nonEmptyPart m s above && leb (bidders ds (somethingIn m s)) (size m s)
 
--- the demanded items of the set `above` all lie in s. The paper's O⁺(S, p), where `above` are the items of price above 0
+-- the demanded items of the set `above` all lie in s. The paper's O⁺(S, p), where `above` are the items of price above the floor
 abbrev pub nothingAboveOutside : ℕ → ℕ → ℕ → Demand → Bool
 nothingAboveOutside m above s d = each m λ i. wants d i && has above i ⇒ has s i
 
@@ -54,9 +54,9 @@ inExcess m ds s = crowded m ds (nothingOutside m s) s
 unfoldable pub excessDemand : ℕ → List Demand → ℕ
 excessDemand m ds = largest m (inExcess m ds)
 
--- the items (pans) of price (rent) above 0: the paper's I⁺(p)
-unfoldable pub positive : ℕ → List ℕ → ℕ
-positive m prices = setOf m λ i. ltb 0 (amount prices i)
+-- the items (pans) of price (rent) above the floor: the paper's I⁺(p), whose floors are 0
+unfoldable pub aboveFloors : ℕ → (floors prices : List ℕ) → ℕ
+aboveFloors m floors prices = setOf m λ i. ltb (amount floors i) (amount prices i)
 
 -- the same with the items of `above` only: s holds such items, and a bidder counts whose demanded items of `above` all lie in s. Definition 5 of the
 -- paper, positive excess demand

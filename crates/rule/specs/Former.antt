@@ -7,10 +7,10 @@ use mathlib.Core.Path.{_≡_}
 use Rattle.sets.specs.Bit.{setOf}
 use Rattle.rule.specs.Sheet.{Sheet}
 use Rattle.rule.specs.Demand.{best, Demand}
-use Rattle.rule.specs.Excess.{positive}
+use Rattle.rule.specs.Excess.{aboveFloors}
 use Rattle.rule.specs.Round.{Round, round, State, move, opening, path, mostRounds, close}
 use Rattle.rule.specs.Assignment.{fits}
-use Rattle.rule.specs.Equilibrium.{Equilibrium}
+use Rattle.rule.specs.Equilibrium.{Below, Equilibrium}
 use Rattle.rule.specs.Closing.{roundOf}
 use Rattle.rule.specs.Reasons.{Reason, reasonOf, reasonAt}
 
@@ -24,18 +24,18 @@ formerDemands m bids prices = map (formerDemand m prices) bids
 
 -- ---- by these demands: a round, k rounds, a sheet's path, what its round k + 1 does, its close
 
-unfoldable pub formerRoundAt : ℕ → List (List ℕ) → State → Round
-formerRoundAt m bids s = round m (positive m (s .prices)) (formerDemands m bids (s .prices)) (s .phase)
+unfoldable pub formerRoundAt : ℕ → (floors : List ℕ) → List (List ℕ) → State → Round
+formerRoundAt m floors bids s = round m (aboveFloors m floors (s .prices)) (formerDemands m bids (s .prices)) (s .phase)
 
-unfoldable pub formerAfter : ℕ → List (List ℕ) → State → ℕ → State
-formerAfter m bids s zero = s
-formerAfter m bids s (suc k) = let t : State = formerAfter m bids s k in move m t (formerRoundAt m bids t)
+unfoldable pub formerAfter : ℕ → (floors : List ℕ) → List (List ℕ) → State → ℕ → State
+formerAfter m floors bids s zero = s
+formerAfter m floors bids s (suc k) = let t : State = formerAfter m floors bids s k in move m t (formerRoundAt m floors bids t)
 
 unfoldable pub formerPath : Sheet → ℕ → State
-formerPath s k = formerAfter (s .items) (s .bids) (opening (s .start)) k
+formerPath s k = formerAfter (s .items) (s .floors) (s .bids) (opening (s .start)) k
 
 abbrev pub formerRoundOf : Sheet → ℕ → Round
-formerRoundOf s k = formerRoundAt (s .items) (s .bids) (formerPath s k)
+formerRoundOf s k = formerRoundAt (s .items) (s .floors) (s .bids) (formerPath s k)
 
 unfoldable pub formerClose : Sheet → State
 formerClose s = formerPath s mostRounds
@@ -45,9 +45,10 @@ formerClose s = formerPath s mostRounds
 unfoldable pub formerReasonAt : Sheet → ℕ → Reason
 formerReasonAt s k = reasonOf (s .items) (formerDemands (s .items) (s .bids) (formerPath s k .prices)) (formerRoundOf s k)
 
-pub record FormerEquilibrium (m : ℕ) (bids : List (List ℕ)) (prices : List ℕ) : Type 0 where
+pub record FormerEquilibrium (m : ℕ) (floors : List ℕ) (bids : List (List ℕ)) (prices : List ℕ) : Type 0 where
+  pub from-floors : Below floors prices
   pub assigned : List ℕ
-  pub balances : fits m (positive m prices) (formerDemands m bids prices) assigned ≡ true
+  pub balances : fits m (aboveFloors m floors prices) (formerDemands m bids prices) assigned ≡ true
 
 -- ---- what #102 leaves as it was, of a sheet
 
@@ -59,5 +60,5 @@ pub record Unchanged (s : Sheet) : Type 0 where
   pub rounds : (k : ℕ) → roundOf s k ≡ formerRoundOf s k
   pub reasons : (k : ℕ) → reasonAt s k ≡ formerReasonAt s k
   -- prices balance with it if and only if they do without
-  pub balance : (q : List ℕ) → Equilibrium (s .items) (s .bids) q → FormerEquilibrium (s .items) (s .bids) q
-  pub balance-back : (q : List ℕ) → FormerEquilibrium (s .items) (s .bids) q → Equilibrium (s .items) (s .bids) q
+  pub balance : (q : List ℕ) → Equilibrium (s .items) (s .floors) (s .bids) q → FormerEquilibrium (s .items) (s .floors) (s .bids) q
+  pub balance-back : (q : List ℕ) → FormerEquilibrium (s .items) (s .floors) (s .bids) q → Equilibrium (s .items) (s .floors) (s .bids) q

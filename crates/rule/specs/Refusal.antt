@@ -1,7 +1,7 @@
--- The numbers that turn a call down, each under its condition, and the first of them in order: document 01, "Turned down by the input" and "Order".
+-- The numbers that turn a call down, each under its condition, and the first of them in order: document 01, "Turned down by the input" and "Order"; document 02.
 -- Assumes nothing: these are definitions.
 use Prim.Native.Nat.{ℕ}
-use mathlib.Core.Bool.{Bool, true, false, not}
+use mathlib.Core.Bool.{Bool, true, false, _||_, not}
 use mathlib.Core.List.{List, [], _∷_}
 use lib.Dec.{ltb, eqb}
 use lib.ListN.{length, getD}
@@ -29,9 +29,17 @@ badBidders n = outside 64 n
 unfoldable pub badLength : List ℕ → ℕ → Bool
 badLength xs n = not (eqb (length xs) n)
 
--- 4, of the starting prices, and 5, of the bids: one is above 4,095
+-- 4, of the starting prices, 5, of the bids, and 18, of the floors: one is above 4,095
 unfoldable pub anyOver : List ℕ → Bool
 anyOver xs = anyBelow (length xs) λ k. ltb 4095 (getD xs k 0)
+
+-- 18: a starting price is below its floor
+unfoldable pub anyUnder : (prices floors : List ℕ) → Bool
+anyUnder prices floors = anyBelow (length floors) λ k. ltb (getD prices k 0) (getD floors k 0)
+
+-- 18, both halves: a starting price is below its floor, or a floor is above 4,095
+unfoldable pub badFloors : (start floors : List ℕ) → Bool
+badFloors start floors = anyUnder start floors || anyOver floors
 
 -- 7: a bidder's number b outside 1 to the count n
 unfoldable pub badBidder : ℕ → ℕ → Bool

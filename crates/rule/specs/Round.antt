@@ -6,7 +6,7 @@ use Rattle.sets.specs.Bit.{has}
 use Rattle.sets.specs.Lists.{tabulate}
 use Rattle.rule.specs.Sheet.{amount, Sheet}
 use Rattle.rule.specs.Demand.{Demand, demands}
-use Rattle.rule.specs.Excess.{excessDemand, excessSupply, positive}
+use Rattle.rule.specs.Excess.{excessDemand, excessSupply, aboveFloors}
 
 -- the prices (rents) of the items of s go up by 1
 unfoldable pub raise : ℕ → List ℕ → ℕ → List ℕ
@@ -30,7 +30,7 @@ unfoldable pub roundFalling : ℕ → ℕ → List Demand → Round
 roundFalling m above ds = elim (excessSupply m above ds) [ suc k ↦ lowered (suc k) | zero ↦ closed ]
 
 -- rising first: while the rising set is not empty it goes up. Step 3 of algorithm 1. The turn is when it is first empty, and needs no round of its own.
--- The auction closes when both sets are empty. `above` are the items of price above 0
+-- The auction closes when both sets are empty. `above` are the items of price above the floor
 unfoldable pub round : ℕ → ℕ → List Demand → Phase → Round
 round m above ds rising = elim (excessDemand m ds) [ suc k ↦ raised (suc k) | zero ↦ roundFalling m above ds ]
 round m above ds falling = roundFalling m above ds
@@ -49,17 +49,17 @@ move m s (lowered p) = record { phase = falling; prices = lower m (s .prices) p;
 move m s closed = s
 
 -- the round that the bidders' demands at a state's prices give
-unfoldable pub roundAt : ℕ → List (List ℕ) → State → Round
-roundAt m bids s = round m (positive m (s .prices)) (demands m bids (s .prices)) (s .phase)
+unfoldable pub roundAt : ℕ → (floors : List ℕ) → List (List ℕ) → State → Round
+roundAt m floors bids s = round m (aboveFloors m floors (s .prices)) (demands m bids (s .prices)) (s .phase)
 
 -- one round
-abbrev pub step : ℕ → List (List ℕ) → State → State
-step m bids s = move m s (roundAt m bids s)
+abbrev pub step : ℕ → (floors : List ℕ) → List (List ℕ) → State → State
+step m floors bids s = move m s (roundAt m floors bids s)
 
 -- k rounds; once closed, the state stays
-unfoldable pub after : ℕ → List (List ℕ) → State → ℕ → State
-after m bids s zero = s
-after m bids s (suc k) = let t : State = after m bids s k in step m bids t
+unfoldable pub after : ℕ → (floors : List ℕ) → List (List ℕ) → State → ℕ → State
+after m floors bids s zero = s
+after m floors bids s (suc k) = let t : State = after m floors bids s k in step m floors bids t
 
 -- the start
 unfoldable pub opening : List ℕ → State
@@ -67,7 +67,7 @@ opening start = record { phase = rising; prices = start; ups = 0; downs = 0 }
 
 -- a sheet's path: what the rule of a round gives from its starting prices
 unfoldable pub path : Sheet → ℕ → State
-path s k = after (s .items) (s .bids) (opening (s .start)) k
+path s k = after (s .items) (s .floors) (s .bids) (opening (s .start)) k
 
 -- the most rounds that a path takes: 4,095 raised and 4,095 lowered (`Closing.ups-max`, `Closing.downs-max`)
 unfoldable pub mostRounds : ℕ

@@ -42,7 +42,7 @@ returns-2 c =
     let f = fine (a .items) (a .bidders) (a .start .now) (a .bids .now) z in
     let p = c .before .before .before .before .before .before .before .before .rounds in
     let d = demanded (a .items) (a .bidders) (p .result .prices) (a .bids .now) (record { max-items = f .max-items; max-bidders = f .max-bidders; exact = f .bids-long }) (c .before .before .before .before .before .demands-at .result) (c .before .before .before .before .before .demands-at .ensures) in
-    let above = c .before .positive in
+    let above = c .before .aboveFloors in
     let e = sealed-is s g (a .bidders) (p .result .prices) (c .before .before .before .before .before .demands-at .result .sets) (c .before .before .before .before .before .demands-at .result .nulls) (above .result) (p .ensures .2) (above .ensures ∙ past-items s g (p .result .prices) (p .ensures .2))
     (d .reported) (d .same) (p .result .raised) (p .result .lowered) (c .first .result) (p .ensures .0) (p .ensures .1) (c .first .ensures) ∙ sealed-closed (a .items) (a .bidders) (a .start .now) (a .bids .now) z in
     (e, sealed-promised (a .items) (a .bidders) (a .start .now) (a .bids .now) _ e)

@@ -8,10 +8,10 @@ use Rattle.prices.proofs.in_places.Statement.{statement}
 use Rattle.prices.proofs.in_places.Tie as tie
 
 abbrev Inv-loop : tie.InvT-loop
-Inv-loop start next₀ i₀ next i = Filled 32 (λ k. getD start k 0) i next
+Inv-loop xs next₀ i₀ next i = Filled 32 (λ k. getD xs k 0) i next
 
 abbrev μ-loop : tie.MeasureT-loop
-μ-loop start next₀ i₀ next i = 32 - i
+μ-loop xs next₀ i₀ next i = 32 - i
 
 loop-holds : tie.Need-loop-holds Inv-loop μ-loop
 loop-holds c = fill-start 32 _

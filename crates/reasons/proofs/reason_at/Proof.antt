@@ -25,7 +25,7 @@ returns c =
     let pre = c .before .before .before .before .before .before .before .before .before .pre in
     let d = c .before .before .before .before .before .before .before .demands-at in
     reason-is (a .items) (a .bidders) (a .prices .now) (a .bids .now) (record { max-items = pre .0; max-bidders = pre .1; exact = pre .2 }) (pre .3) (a .falls) (d .result) (d .ensures)
-    (c .before .before .before .before .positive .result) (c .before .before .before .moving .result) (c .before .before .kind .result) (c .who .result) (c .before .before .before .before .positive .ensures) (c .before .before .before .moving .ensures) (c .before .before .kind .ensures) (c .who .ensures)
+    (c .before .before .before .before .aboveFloors .result) (c .before .before .before .moving .result) (c .before .before .kind .result) (c .who .result) (c .before .before .before .before .aboveFloors .ensures) (c .before .before .before .moving .ensures) (c .before .before .kind .ensures) (c .who .ensures)
 
 pub reason-at-spec : {M : Type 1} → statement M
 reason-at-spec =

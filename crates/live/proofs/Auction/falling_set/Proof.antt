@@ -22,7 +22,7 @@ returns c =
     let fit : (b : ℕ) → Fits w32 (getD (r .sets) b 0) = λ b. search needs in
     let priced : length (r .prices) ≡ 32 = search needs in
     c .falling .ensures (r .nulls)
-    ∙ falling-here r (c .before .before .before .before .before .before .pre) (record { long = long; fit = λ b. fit b .fits }) priced (c .before .positive .result) (c .before .positive .ensures)
+    ∙ falling-here r (c .before .before .before .before .before .before .pre) (record { long = long; fit = λ b. fit b .fits }) priced (c .before .aboveFloors .result) (c .before .aboveFloors .ensures)
 
 pub falling-set-spec : {M : Type 1} → statement M
 falling-set-spec = tie.close (tie.spec positive-requires falling-requires returns)

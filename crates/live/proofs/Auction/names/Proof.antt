@@ -22,7 +22,7 @@ returns c =
     let long : length (r .sets) ≡ 64 = search needs in
     let fit : (b : ℕ) → Fits w32 (getD (r .sets) b 0) = λ b. search needs in
     let priced : length (r .prices) ≡ 32 = search needs in
-    c .first .ensures ∙ names-here r (c .before .before .before .before .before .before .pre) (record { long = long; fit = λ b. fit b .fits }) priced (c .before .positive .result) (c .before .positive .ensures)
+    c .first .ensures ∙ names-here r (c .before .before .before .before .before .before .pre) (record { long = long; fit = λ b. fit b .fits }) priced (c .before .aboveFloors .result) (c .before .aboveFloors .ensures)
 
 pub names-spec : {M : Type 1} → statement M
 names-spec = tie.close (tie.spec positive-requires first-requires returns)

@@ -1,6 +1,6 @@
--- `round::positive` meets its contract. Each turn adds one item, if its price is above 0. Assumes nothing.
+-- `round::above_floors` meets its contract. Each turn adds one item, if its price is above the floor. Assumes nothing.
 use Prim.Native.Nat.{ℕ, _+_, _-_, _≤_}
-use mathlib.Core.Path.{_≡_, refl, sym, ap}
+use mathlib.Core.Path.{_≡_, refl, sym, ap, ap₂}
 use mathlib.Core.List.{List}
 use native.Mathlib.Omega.{arith}
 use native.Mathlib.Numerals.{add-one}
@@ -8,11 +8,11 @@ use lib.Dec.{ltb}
 use lib.ListN.{getD}
 use Rattle.sets.specs.Bit.{setOf}
 use Rattle.rule.specs.Sheet.{amount}
-use Rattle.rule.specs.Excess.{positive}
+use Rattle.rule.specs.Excess.{aboveFloors}
 use Rattle.round.proofs.Adding.{add-next, add-end}
 use borrow.Author.Needs.{needs}
-use Rattle.round.proofs.positive.Statement.{statement}
-use Rattle.round.proofs.positive.Tie as tie
+use Rattle.round.proofs.above_floors.Statement.{statement}
+use Rattle.round.proofs.above_floors.Tie as tie
 
 -- item k + 1 has the price at place k
 amount-next : (p : List ℕ) (k : ℕ) → amount p (k + 1) ≡ getD p k 0
@@ -20,10 +20,10 @@ unfolding amount
 amount-next p k = ap (amount p) (add-one k)
 
 abbrev Inv-loop : tie.InvT-loop
-Inv-loop prices s₀ i₀ s i = (i ≤ 32) × (s ≡ setOf i (λ j. ltb 0 (amount prices j)))
+Inv-loop floors prices s₀ i₀ s i = (i ≤ 32) × (s ≡ setOf i (λ j. ltb (amount floors j) (amount prices j)))
 
 abbrev μ-loop : tie.MeasureT-loop
-μ-loop prices s₀ i₀ s i = 32 - i
+μ-loop floors prices s₀ i₀ s i = 32 - i
 
 loop-holds : tie.Need-loop-holds Inv-loop μ-loop
 unfolding setOf
@@ -38,6 +38,12 @@ mul-add-item c = search needs
 element-copy-out-add-item : tie.Need-element-copy-out-add-item Inv-loop μ-loop
 element-copy-out-add-item c = search needs
 
+mul-add-item-2 : tie.Need-mul-add-item-2 Inv-loop μ-loop
+mul-add-item-2 c = search needs
+
+element-copy-out-add-item-2 : tie.Need-element-copy-out-add-item-2 Inv-loop μ-loop
+element-copy-out-add-item-2 c = search needs
+
 add-item-requires : tie.Need-add-item-requires Inv-loop μ-loop
 add-item-requires c κs = search needs
 
@@ -49,23 +55,24 @@ loop-less c = search needs
 
 loop-again : tie.Need-loop-again Inv-loop μ-loop
 loop-again c =
-    let a = c .before .before .before .before .args in
-    let at = c .before .before .before .loop in
-    let lt = c .before .before .loop-test .taken in (
+    let a = c .before .before .before .before .before .args in
+    let at = c .before .before .before .before .loop in
+    let lt = c .before .before .before .loop-test .taken in (
       omega arith,
-      add-next 32 (λ j. ltb 0 (amount (a .prices .now) j)) (at .i) lt (at .s) (ltb 0 (getD (a .prices .now) (at .i) 0)) (c .add-item .result) (at .inv .1)
-          (sym (ap (ltb 0) (amount-next (a .prices .now) (at .i)))) (c .add-item .ensures),
+      add-next 32 (λ j. ltb (amount (a .floors .now) j) (amount (a .prices .now) j)) (at .i) lt (at .s)
+          (ltb (getD (a .floors .now) (at .i) 0) (getD (a .prices .now) (at .i) 0)) (c .add-item .result) (at .inv .1)
+          (sym (ap₂ ltb (amount-next (a .floors .now) (at .i)) (amount-next (a .prices .now) (at .i)))) (c .add-item .ensures),
     )
 
 returns : tie.Need-returns Inv-loop μ-loop
-unfolding positive
+unfolding aboveFloors
 returns c =
     let a = c .before .before .args in
     let at = c .before .loop in
-    add-end (λ j. ltb 0 (amount (a .prices .now) j)) (at .i) 32 (at .s) (at .inv .1) (at .inv .0) (c .loop-test .left)
+    add-end (λ j. ltb (amount (a .floors .now) j) (amount (a .prices .now) j)) (at .i) 32 (at .s) (at .inv .1) (at .inv .0) (c .loop-test .left)
 
-pub positive-spec : {M : Type 1} → statement M
-positive-spec =
+pub above-floors-spec : {M : Type 1} → statement M
+above-floors-spec =
     tie.close
     (tie.spec
     Inv-loop
@@ -74,6 +81,8 @@ positive-spec =
     add-add-item
     mul-add-item
     element-copy-out-add-item
+    mul-add-item-2
+    element-copy-out-add-item-2
     add-item-requires
     add-i
     loop-less
