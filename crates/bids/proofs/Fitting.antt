@@ -29,13 +29,20 @@ line-small m bids h b = all-small (lineOf m bids b) at
     at : (k : ℕ) → k < length (lineOf m bids b) → getD (lineOf m bids b) k 0 ≤ 4095
     at k lk = omega (arith, line-at m bids b k (omega (arith, lk, length-take m (drop (b * m) bids))), h (b * m + k))
 
-module _ {m n : ℕ} {start bids : List ℕ} (f : Fine m n start bids) where
+-- small amounts in 32 places
+places-fit : (xs : List ℕ) → Small xs → (ys : List ℕ) → ys ≡ places 32 xs → Small ys × (length ys ≡ 32)
+unfolding Small
+places-fit xs h ys e = (subst Small (sym e) (all-small (places 32 xs) at), ap length e ∙ places-length 32 xs)
+  where
+    at : (k : ℕ) → k < length (places 32 xs) → getD (places 32 xs) k 0 ≤ 4095
+    at k l = omega (arith, places-at 32 xs k (omega (arith, l, places-length 32 xs)), h k)
+
+module _ {m n : ℕ} {start floors bids : List ℕ} (f : Fine m n start floors bids) where
   pub bids-fit : Fit m n bids
   bids-fit = record { some-item = f .some-item; max-items = f .max-items; max-bidders = f .max-bidders; long = f .bids-long; small = all-small bids (f .amounts) }
 
   pub start-fits : (first : List ℕ) → first ≡ places 32 start → Small first × (length first ≡ 32)
-  unfolding Small
-  start-fits first e = (subst Small (sym e) (all-small (places 32 start) at), ap length e ∙ places-length 32 start)
-    where
-      at : (k : ℕ) → k < length (places 32 start) → getD (places 32 start) k 0 ≤ 4095
-      at k l = omega (arith, places-at 32 start k (omega (arith, l, places-length 32 start)), all-small start (f .starts) k)
+  start-fits = places-fit start (all-small start (f .starts))
+
+  pub floors-fit : (low : List ℕ) → low ≡ places 32 floors → Small low × (length low ≡ 32)
+  floors-fit = places-fit floors (all-small floors (f .floors-most))

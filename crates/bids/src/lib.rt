@@ -1,7 +1,7 @@
 // The lent numbers of a sheet: what turns them down, and a bidder's line of the bids.
 ghost use mathlib.Core.Path.{_≡_};
 ghost use Prim.Native.Nat.{_*_, _≤_};
-ghost use Rattle.bids.specs.Refusal.{sealedRefusal};
+ghost use Rattle.bids.specs.Refusal.{sealedRefusal, sealedAboveRefusal};
 ghost use Rattle.bids.specs.Line.{rowShown, rowStart, lineRefusal, lineShown, lineStart, startsAt};
 
 // How many bids there are.
@@ -12,9 +12,16 @@ fn bid_count(items: usize, bidders: usize) -> usize
     bidders * items
 }
 
-// The number that turns a sheet down, or 0: starting prices, one for each item, and bids, bidder after bidder.
-pub fn refusal(items: usize, bidders: usize, start: &[u16], bids: &[u16]) -> u8
-    ensures { λ r. ⌜ r ≡ sealedRefusal items bidders (now (start .entry)) (now (bids .entry)) ⌝ }
+// The number that turns a sheet with floors down, or 0: starting prices and floors, one for each item, and bids, bidder after bidder. Where no starting
+// price is above 4,095, a floor above 4,095 is above its starting price: 18 is one test.
+pub fn refusal_above(
+    items: usize,
+    bidders: usize,
+    start: &[u16],
+    floors: &[u16],
+    bids: &[u16],
+) -> u8
+    ensures { λ r. ⌜ r ≡ sealedAboveRefusal items bidders (now (start .entry)) (now (floors .entry)) (now (bids .entry)) ⌝ }
 {
     if sets::outside(32, items) {
         return 1;
@@ -25,16 +32,33 @@ pub fn refusal(items: usize, bidders: usize, start: &[u16], bids: &[u16]) -> u8
     if start.len() != items {
         return 3;
     }
+    if floors.len() != items {
+        return 3;
+    }
     if bids.len() != bid_count(items, bidders) {
         return 3;
     }
     if prices::any_over(start) {
         return 4;
     }
+    if prices::any_under(start, floors) {
+        return 18;
+    }
     if prices::any_over(bids) {
         return 5;
     }
     0
+}
+
+// The number that turns a sheet without floors down, or 0: they are 0.
+pub fn refusal(items: usize, bidders: usize, start: &[u16], bids: &[u16]) -> u8
+    ensures { λ r. ⌜ r ≡ sealedRefusal items bidders (now (start .entry)) (now (bids .entry)) ⌝ }
+{
+    if 32 < items {
+        return 1;
+    }
+    let floors = [0u16; 32];
+    refusal_above(items, bidders, start, &floors[..items], bids)
 }
 
 // The number that turns down the asking for a bidder's line, or 0.

@@ -1,17 +1,18 @@
 -- The first number in order: a condition that fails is passed over, and one that holds gives its number. And what it says that a condition holds or fails:
 -- a count outside 1 to the top, a length that is not exact, an amount above 4,095, a price below its floor. Assumes nothing.
 use Prim.Native.Nat.{ℕ, suc, _≤_, _<_}
-use mathlib.Core.Path.{_≡_, refl, ap}
+use mathlib.Core.Path.{_≡_, refl, ap, ap₂}
 use mathlib.Core.Bool.{Bool, true, false, _||_, not}
 use mathlib.Core.List.{List, [], _∷_}
 use mathlib.Core.Logic.{_⊎_, inl, inr}
 use native.Mathlib.Omega.{arith}
 use lib.Dec.{ltb, eqb}
-use lib.ListN.{length, getD, List·getD-eq-default}
+use lib.ListN.{length, getD, replicate, List·getD-eq-default}
 use borrow.Author.Tests.{ltb-true, ltb-false, lt-ltb, le-ltb, eqb-true, eq-eqb, ne-eqb, not-false}
 use Rattle.sets.specs.Count.{anyBelow}
 use Rattle.sets.specs.Bit.{outside}
 use Rattle.sets.proofs.Counting.{lt-or-le, or-left-false, or-right-false, any-use, any-make, is-false, not-both}
+use Rattle.sets.proofs.Filling.{zeros-at}
 use Rattle.rule.specs.Refusal.{Refusal, on, first, badLength, anyOver, anyUnder, badFloors}
 
 pub passed : (n : ℕ) (a : Bool) (rest : List Refusal) → a ≡ false → first (on n a ∷ rest) ≡ first rest
@@ -76,6 +77,13 @@ none-over xs e k l = go (lt-or-le 4095 (getD xs k 0))
     go (inr q) = q
     go (inl q) = absurd (not-both (anyBelow (length xs) (λ k. ltb 4095 (getD xs k 0))) (any-make (length xs) (λ k. ltb 4095 (getD xs k 0)) k l (lt-ltb 4095 (getD xs k 0) q)) e)
 
+pub none-over-all : (xs : List ℕ) → anyOver xs ≡ false → (k : ℕ) → getD xs k 0 ≤ 4095
+none-over-all xs e k = go (lt-or-le k (length xs))
+  where
+    go : (k < length xs) ⊎ (length xs ≤ k) → getD xs k 0 ≤ 4095
+    go (inl l) = none-over xs e k l
+    go (inr l) = omega (arith, List·getD-eq-default xs 0 {n = k} l)
+
 pub over-not : (xs : List ℕ) → ((k : ℕ) → k < length xs → getD xs k 0 ≤ 4095) → anyOver xs ≡ false
 unfolding anyOver
 over-not xs h =
@@ -125,3 +133,12 @@ pub floors-fit : (start floors : List ℕ) → badFloors start floors ≡ false 
 unfolding badFloors
 floors-fit start floors e =
     (none-under start floors (or-left-false (anyUnder start floors) (anyOver floors) e), none-over floors (or-right-false (anyUnder start floors) (anyOver floors) e))
+
+pub floors-in : (start floors : List ℕ) → ((k : ℕ) → k < length floors → getD floors k 0 ≤ getD start k 0) → ((k : ℕ) → k < length floors → getD floors k 0 ≤ 4095)
+    → badFloors start floors ≡ false
+unfolding badFloors
+floors-in start floors low most = ap₂ _||_ (under-not start floors low) (over-not floors most)
+
+-- floors of 0 fit
+pub zeros-in : (start : List ℕ) (m : ℕ) → badFloors start (replicate m 0) ≡ false
+zeros-in start m = floors-in start (replicate m 0) (λ k l. omega (arith, zeros-at m k)) (λ k l. omega (arith, zeros-at m k))

@@ -5,8 +5,8 @@ use mathlib.Core.List.{List, _++_}
 use mathlib.Core.Logic.{_⊎_, inl, inr}
 use native.Mathlib.Omega.{arith}
 use native.Mathlib.Nat.{zero-add}
-use lib.ListN.{length, getD, drop, set, length-set, length-replicate, length-append, length-drop, replicate, getD-replicate, List·getD-append, List·getD-eq-default}
-use lib.Seq.{getD-set-same, getD-set-other, getD-drop, getD-append-add}
+use lib.ListN.{length, getD, take, drop, set, length-set, length-replicate, length-append, length-drop, replicate, getD-replicate, List·getD-append, List·getD-eq-default}
+use lib.Seq.{getD-set-same, getD-set-other, getD-drop, getD-append-add, ext-getD, length-take-le, getD-take}
 use borrow.Author.Count.{below-none, below-more}
 use Rattle.sets.specs.Lists.{tabulate, places}
 use Rattle.sets.proofs.Counting.{lt-or-le}
@@ -67,3 +67,11 @@ front-places w m xs l e =
           ∙ zeros-at w (m + (k - length xs));
     })
     (omega arith)
+
+-- the first m of w zeros
+pub zeros-part : (m w : ℕ) → m ≤ w → take {A = ℕ} m (replicate w 0) ≡ replicate m 0
+zeros-part m w l =
+    let zeros : List ℕ = replicate w 0 in
+    let long : length (take m zeros) ≡ m = length-take-le m zeros (omega (arith, length-replicate {A = ℕ} w 0)) in
+    ext-getD 0 (take m zeros) (replicate m 0) (long ∙ sym (length-replicate {A = ℕ} m 0))
+    (λ k h. getD-take m zeros k 0 (omega (arith, h, long)) ∙ zeros-at w k ∙ sym (zeros-at m k))

@@ -1,108 +1,47 @@
--- `bids::refusal` meets its contract. Each number is given where its condition is the first that holds. Assumes nothing.
-use Prim.Native.Nat.{_*_}
-use mathlib.Core.Path.{sym, _∙_}
-use Rattle.rule.specs.Refusal.{badItems, badBidders, badLength, anyOver}
-use Rattle.rule.proofs.Refusal.{passed, given, first-nil, in-range, exact, inexact}
-use Rattle.bids.specs.Refusal.{sealedRefusal}
+-- `bids::refusal` meets its contract: floors of 0 turn no sheet down. Assumes nothing.
+use Prim.Native.Nat.{ℕ}
+use mathlib.Core.Path.{_≡_, sym, ap, _∙_}
+use mathlib.Core.List.{List}
+use native.Mathlib.Omega.{arith}
+use lib.ListN.{replicate, length-replicate}
+use lib.Seq.{length-take-le}
+use Rattle.sets.proofs.Filling.{zeros-part}
+use Rattle.rule.specs.Refusal.{badItems}
+use Rattle.rule.proofs.Refusal.{given, over-range}
+use Rattle.bids.specs.Refusal.{sealedRefusal, sealedAboveRefusal}
+use Rattle.bids.proofs.Limits.{without-floors}
 use borrow.Author.Needs.{needs}
 use Rattle.bids.proofs.refusal.Statement.{statement}
 use Rattle.bids.proofs.refusal.Tie as tie
 
-outside-requires : tie.Need-outside-requires
-outside-requires c κs = search needs
-
 returns : tie.Need-returns
 unfolding sealedRefusal badItems
 returns c =
-    let a = c .before .before .before .before .args in
-    sym (given 1 (badItems (a .items)) _ (sym (c .before .outside .ensures) ∙ c .if1 .taken))
+    let a = c .before .before .before .args in
+    sym (given 1 (badItems (a .items)) _ (over-range 32 (a .items) (omega (arith, c .if1 .taken)) (c .if1 .taken)))
 
-outside-requires-2 : tie.Need-outside-requires-2
-outside-requires-2 c κs = search needs
+array-share-prefix-floors : tie.Need-array-share-prefix-floors
+array-share-prefix-floors c = search needs
+
+slice-aggregate-refusal-above : tie.Need-slice-aggregate-refusal-above
+slice-aggregate-refusal-above c = sym (length-take-le (c .before .before .before .before .args .items) (replicate 32 0) (omega (arith, length-replicate {A = ℕ} 32 0, c .before .if1 .left)))
+
+refusal-above-requires : tie.Need-refusal-above-requires
+refusal-above-requires c κs = search needs
 
 returns-2 : tie.Need-returns-2
-unfolding sealedRefusal badItems badBidders
 returns-2 c =
-    let a = c .before .before .before .before .before .before .args in
-    sym (passed 1 (badItems (a .items)) _ (sym (c .before .before .before .outside .ensures) ∙ c .before .before .if1 .left)
-    ∙ given 2 (badBidders (a .bidders)) _ (sym (c .before .outside2 .ensures) ∙ c .if2 .taken))
-
-returns-3 : tie.Need-returns-3
-unfolding sealedRefusal badItems badBidders
-returns-3 c =
-    let a = c .before .before .before .before .before .before .before .args in
-    sym (passed 1 (badItems (a .items)) _ (sym (c .before .before .before .before .outside .ensures) ∙ c .before .before .before .if1 .left)
-    ∙ passed 2 (badBidders (a .bidders)) _ (sym (c .before .before .outside2 .ensures) ∙ c .before .if2 .left)
-    ∙ given 3 (badLength (a .start .now) (a .items)) _ (inexact (a .start .now) (a .items) (c .if3 .taken)))
-
-bid-count-requires : tie.Need-bid-count-requires
-bid-count-requires c κs =
-    let a = c .before .before .before .before .before .before .before .args in
-    let i = in-range 32 (a .items) (sym (c .before .before .before .before .outside .ensures) ∙ c .before .before .before .if1 .left) in
-    let b = in-range 64 (a .bidders) (sym (c .before .before .outside2 .ensures) ∙ c .before .if2 .left) in
-    (i .1, b .1)
-
-returns-4 : tie.Need-returns-4
-unfolding sealedRefusal badItems badBidders
-returns-4 c =
-    let a = c .before .before .before .before .before .before .before .before .before .args in
-    sym (passed 1 (badItems (a .items)) _ (sym (c .before .before .before .before .before .before .outside .ensures) ∙ c .before .before .before .before .before .if1 .left)
-    ∙ passed 2 (badBidders (a .bidders)) _ (sym (c .before .before .before .before .outside2 .ensures) ∙ c .before .before .before .if2 .left)
-    ∙ passed 3 (badLength (a .start .now) (a .items)) _ (exact (a .start .now) (a .items) (c .before .before .if3 .left))
-    ∙ given 3 (badLength (a .bids .now) (a .bidders * a .items)) _ (inexact (a .bids .now) (a .bidders * a .items) (λ q. c .if4 .taken (q ∙ sym (c .before .bid-count .ensures)))))
-
-any-over-requires : tie.Need-any-over-requires
-any-over-requires c κs = search needs
-
-returns-5 : tie.Need-returns-5
-unfolding sealedRefusal badItems badBidders
-returns-5 c =
-    let a = c .before .before .before .before .before .before .before .before .before .before .before .args in
-    sym (passed 1 (badItems (a .items)) _ (sym (c .before .before .before .before .before .before .before .before .outside .ensures) ∙ c .before .before .before .before .before .before .before .if1 .left)
-    ∙ passed 2 (badBidders (a .bidders)) _ (sym (c .before .before .before .before .before .before .outside2 .ensures) ∙ c .before .before .before .before .before .if2 .left)
-    ∙ passed 3 (badLength (a .start .now) (a .items)) _ (exact (a .start .now) (a .items) (c .before .before .before .before .if3 .left))
-    ∙ passed 3 (badLength (a .bids .now) (a .bidders * a .items)) _ (exact (a .bids .now) (a .bidders * a .items) (c .before .before .if4 .left ∙ c .before .before .before .bid-count .ensures))
-    ∙ given 4 (anyOver (a .start .now)) _ (sym (c .before .any-over .ensures) ∙ c .if5 .taken))
-
-any-over-requires-2 : tie.Need-any-over-requires-2
-any-over-requires-2 c κs = search needs
-
-returns-6 : tie.Need-returns-6
-unfolding sealedRefusal badItems badBidders
-returns-6 c =
-    let a = c .before .before .before .before .before .before .before .before .before .before .before .before .before .args in
-    sym (passed 1 (badItems (a .items)) _ (sym (c .before .before .before .before .before .before .before .before .before .before .outside .ensures) ∙ c .before .before .before .before .before .before .before .before .before .if1 .left)
-    ∙ passed 2 (badBidders (a .bidders)) _ (sym (c .before .before .before .before .before .before .before .before .outside2 .ensures) ∙ c .before .before .before .before .before .before .before .if2 .left)
-    ∙ passed 3 (badLength (a .start .now) (a .items)) _ (exact (a .start .now) (a .items) (c .before .before .before .before .before .before .if3 .left))
-    ∙ passed 3 (badLength (a .bids .now) (a .bidders * a .items)) _ (exact (a .bids .now) (a .bidders * a .items) (c .before .before .before .before .if4 .left ∙ c .before .before .before .before .before .bid-count .ensures))
-    ∙ passed 4 (anyOver (a .start .now)) _ (sym (c .before .before .before .any-over .ensures) ∙ c .before .before .if5 .left)
-    ∙ given 5 (anyOver (a .bids .now)) _ (sym (c .before .any-over2 .ensures) ∙ c .if6 .taken))
-
-returns-7 : tie.Need-returns-7
-unfolding sealedRefusal badItems badBidders
-returns-7 c =
-    let a = c .before .before .before .before .before .before .before .before .before .before .before .before .before .args in
-    sym (passed 1 (badItems (a .items)) _ (sym (c .before .before .before .before .before .before .before .before .before .before .outside .ensures) ∙ c .before .before .before .before .before .before .before .before .before .if1 .left)
-    ∙ passed 2 (badBidders (a .bidders)) _ (sym (c .before .before .before .before .before .before .before .before .outside2 .ensures) ∙ c .before .before .before .before .before .before .before .if2 .left)
-    ∙ passed 3 (badLength (a .start .now) (a .items)) _ (exact (a .start .now) (a .items) (c .before .before .before .before .before .before .if3 .left))
-    ∙ passed 3 (badLength (a .bids .now) (a .bidders * a .items)) _ (exact (a .bids .now) (a .bidders * a .items) (c .before .before .before .before .if4 .left ∙ c .before .before .before .before .before .bid-count .ensures))
-    ∙ passed 4 (anyOver (a .start .now)) _ (sym (c .before .before .before .any-over .ensures) ∙ c .before .before .if5 .left)
-    ∙ passed 5 (anyOver (a .bids .now)) _ (sym (c .before .any-over2 .ensures) ∙ c .if6 .left)
-    ∙ first-nil)
+    let a = c .before .before .before .before .before .args in
+    c .refusal-above .ensures
+    ∙ ap (λ (floors : List ℕ). sealedAboveRefusal (a .items) (a .bidders) (a .start .now) floors (a .bids .now)) (zeros-part (a .items) 32 (c .before .before .if1 .left))
+    ∙ without-floors (a .items) (a .bidders) (a .start .now) (a .bids .now)
 
 pub refusal-spec : {M : Type 1} → statement M
 refusal-spec =
     tie.close
     (tie.spec
-    outside-requires
     returns
-    outside-requires-2
-    returns-2
-    returns-3
-    bid-count-requires
-    returns-4
-    any-over-requires
-    returns-5
-    any-over-requires-2
-    returns-6
-    returns-7)
+    array-share-prefix-floors
+    slice-aggregate-refusal-above
+    refusal-above-requires
+    returns-2)
