@@ -30,7 +30,7 @@ line-small m bids h b = all-small (lineOf m bids b) at
     at k lk = omega (arith, line-at m bids b k (omega (arith, lk, length-take m (drop (b * m) bids))), h (b * m + k))
 
 -- small amounts in 32 places
-places-fit : (xs : List ℕ) → Small xs → (ys : List ℕ) → ys ≡ places 32 xs → Small ys × (length ys ≡ 32)
+pub places-fit : (xs : List ℕ) → Small xs → (ys : List ℕ) → ys ≡ places 32 xs → Small ys × (length ys ≡ 32)
 unfolding Small
 places-fit xs h ys e = (subst Small (sym e) (all-small (places 32 xs) at), ap length e ∙ places-length 32 xs)
   where
@@ -41,8 +41,8 @@ module _ {m n : ℕ} {start floors bids : List ℕ} (f : Fine m n start floors b
   pub bids-fit : Fit m n bids
   bids-fit = record { some-item = f .some-item; max-items = f .max-items; max-bidders = f .max-bidders; long = f .bids-long; small = all-small bids (f .amounts) }
 
-  pub start-fits : (first : List ℕ) → first ≡ places 32 start → Small first × (length first ≡ 32)
-  start-fits = places-fit start (all-small start (f .starts))
+  pub start-fits : Small start × (length start ≤ 32)
+  start-fits = (all-small start (f .starts), omega (arith, f .start-long, f .max-items))
 
-  pub floors-fit : (low : List ℕ) → low ≡ places 32 floors → Small low × (length low ≡ 32)
-  floors-fit = places-fit floors (all-small floors (f .floors-most))
+  pub floors-fit : Small floors × (length floors ≤ 32)
+  floors-fit = (all-small floors (f .floors-most), omega (arith, f .floors-long, f .max-items))

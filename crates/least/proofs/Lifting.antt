@@ -1,4 +1,4 @@
--- From the close to the turn: prices lifted to the start where that is higher, and the least from there up. THEORY.md 2.13. Assumes nothing.
+-- On from the least prices from 0 up: prices lifted to the start of the rise where that is higher, and the least from there up. THEORY.md 2.13. Assumes nothing.
 use Prim.Native.Nat.{ℕ, zero, suc, _+_, _≤_, _<_}
 use mathlib.Core.Path.{_≡_, refl, sym, ap, _∙_, subst}
 use mathlib.Core.Bool.{true, false, _||_}
@@ -26,7 +26,7 @@ use Rattle.least.specs.Holding.{Holds, Demands}
 use Rattle.least.specs.Putting.{bidAt, Put, everyone, others, Standing}
 use Rattle.least.specs.Transposing.{Balanced}
 use Rattle.least.specs.Falling.{Lowered}
-use Rattle.least.specs.Lifting.{Lifted, Closed}
+use Rattle.least.specs.Lifting.{Lifted, FromZero}
 use Rattle.least.proofs.Entering.{amount-suc}
 use Rattle.least.proofs.Joining.{everyone-use, everyone-make, others-use, others-make, held-same}
 use Rattle.least.proofs.Lowering.{least-from}
@@ -132,7 +132,7 @@ module _ (n : ℕ) (ln : n < 64) (start prices own next holders : List ℕ) (wai
 
 -- ---- the prices lifted, and who still holds what
 
-module _ {m n : ℕ} {bids prices own : List ℕ} (c : Closed m n bids prices own) {start : List ℕ} (small : Small start) (len : length start ≡ 32) {next holders : List ℕ} {waiting : ℕ}
+module _ {m n : ℕ} {bids prices own : List ℕ} (c : FromZero m n bids prices own) {start : List ℕ} (small : Small start) (len : length start ≡ 32) {next holders : List ℕ} {waiting : ℕ}
     (t : Lifted 32 start prices own next holders waiting) where
   s : Standing m n bids (everyone n) prices own
   s = c .lowered .standing

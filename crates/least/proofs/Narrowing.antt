@@ -5,19 +5,16 @@ use mathlib.Core.List.{List}
 use mathlib.Core.Logic.{_⊎_, inl, inr}
 use native.Mathlib.Omega.{arith}
 use native.Mathlib.Nat.{le-antisymm}
-use lib.ListN.{length, getD, replicate, List·getD-eq-default}
+use lib.ListN.{length, getD, List·getD-eq-default}
 use Rattle.sets.specs.Lists.{places}
 use Rattle.sets.proofs.Counting.{lt-or-le}
-use Rattle.sets.proofs.Filling.{zeros-at}
 use Rattle.sets.proofs.Lists.{places-length, places-at}
 use Rattle.rule.specs.Sheet.{amount}
 use Rattle.rule.specs.Excess.{excessDemand}
 use Rattle.rule.specs.Equilibrium.{Below}
-use Rattle.rule.proofs.Limits.{amount-zeros, prices-ext}
+use Rattle.rule.proofs.Limits.{prices-ext}
 use Rattle.prices.proofs.Moving.{demands-same, places-amount}
-use Rattle.bids.specs.Lent.{rowsOf}
 use Rattle.least.specs.Least.{LeastFrom, Least}
-use Rattle.least.specs.Lifting.{Closed}
 
 -- there is one such list
 pub one-least : (m : ℕ) (rows : List (List ℕ)) (base p q : List ℕ) → Least m rows base p → Least m rows base q → p ≡ q
@@ -47,19 +44,9 @@ narrow-amount xs past (suc x) = go (lt-or-le x 32)
     go (inl l) = sym (places-at 32 xs x l)
     go (inr l) = past x l ∙ sym (List·getD-eq-default (places 32 xs) 0 {n = x} (omega (arith, l, places-length 32 xs)))
 
-pub narrow-close : {m n : ℕ} {bids prices own : List ℕ} → Closed m n bids prices own → (r : List ℕ) → r ≡ places 32 prices → Least m (rowsOf m n bids) (replicate 32 0) r
-narrow-close {m} {n} {bids} {prices} {own} c r e =
-    record {
-      least = least-same m (rowsOf m n bids) (replicate 64 0) (replicate 32 0) prices r (λ i. amount-zeros 64 i ∙ sym (amount-zeros 32 i)) same (c .lowered .least);
-      long = ap length e ∙ places-length 32 prices;
-    }
-  where
-    same : (i : ℕ) → amount prices i ≡ amount r i
-    same i = narrow-amount prices (λ x l. c .lowered .past x (omega (arith, l, c .max-items)) ∙ zeros-at 64 x) i ∙ ap (λ (z : List ℕ). amount z i) (sym e)
-
-pub narrow-turn : (m : ℕ) (rows : List (List ℕ)) (start first prices : List ℕ) → first ≡ places 32 start → length start ≤ 32 → ((x : ℕ) → 32 ≤ x → getD prices x 0 ≡ 0)
+pub narrow-least : (m : ℕ) (rows : List (List ℕ)) (start first prices : List ℕ) → first ≡ places 32 start → length start ≤ 32 → ((x : ℕ) → 32 ≤ x → getD prices x 0 ≡ 0)
     → LeastFrom m rows first prices → (r : List ℕ) → r ≡ places 32 prices → Least m rows start r
-narrow-turn m rows start first prices ef short past l r e =
+narrow-least m rows start first prices ef short past l r e =
     record {
       least = least-same m rows first start prices r from (λ i. narrow-amount prices past i ∙ ap (λ (z : List ℕ). amount z i) (sym e)) l;
       long = ap length e ∙ places-length 32 prices;

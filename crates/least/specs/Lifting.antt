@@ -17,8 +17,8 @@ pub record Lifted (n : ℕ) (start prices own next holders : List ℕ) (waiting 
   pub waits : (b : ℕ) → has waiting (suc b) ≡ true → (x : ℕ) × (x < n) × (getD prices x 0 < getD start x 0) × (getD own x 0 ≡ suc b)
   pub released : (x b : ℕ) → x < n → b < 64 → getD prices x 0 < getD start x 0 → getD own x 0 ≡ suc b → has waiting (suc b) ≡ true
 
--- the close: the least prices from 0 up, and who holds what at them
-pub record Closed (m n : ℕ) (bids prices own : List ℕ) : Type 0 where
+-- the least prices from 0 up, and who holds what at them
+pub record FromZero (m n : ℕ) (bids prices own : List ℕ) : Type 0 where
   pub max-items : m ≤ 32
   pub lowered : Lowered m n bids (replicate 64 0) prices own
   pub free : (x : ℕ) → m ≤ x → getD own x 0 ≡ 0

@@ -1,8 +1,8 @@
-// The least prices at which no set of items is overdemanded: from prices of 0 up, which is the close, and from the starting prices up, which is the turn.
+// The least prices at which no set of items is overdemanded: from the floors up, which is the close, and from the starting prices up, which is the turn.
 //
 // Bidders are put in over items one at a time: a search by distance finds by how much prices must rise before the new bidder, and those whom they push on, all
-// have an item that they demand, or null. For the close the items are put in over the bidders instead, by the transposed table of bids: there are fewer of them.
-// Prices and holders that then balance fall to the least that do, in one more search.
+// have an item that they demand, or null. From 0 up the items are put in over the bidders instead, by the transposed table of bids: there are fewer of them.
+// Prices and holders that then balance fall to the least that do, in one more search. Both ends rise from there.
 //
 // Arrays have 64 places, for items or for bidders. Item i has place i - 1; a holder is a bidder counted from 1, or 0.
 ghost use mathlib.Core.Path.{_≡_};
@@ -14,12 +14,12 @@ ghost use Rattle.sets.specs.Bit.{has, setOf};
 ghost use Rattle.sets.specs.Lists.{places};
 ghost use Rattle.rule.specs.Sheet.{amount};
 ghost use Rattle.bids.specs.Lent.{lineOf, rowsOf};
-ghost use Rattle.bids.specs.Refusal.{sealedRefusal};
+ghost use Rattle.bids.specs.Refusal.{sealedAboveRefusal};
 ghost use Rattle.bids.specs.Fit.{Small, Fit};
 ghost use Rattle.least.specs.Steps.{Reached, Lowest, Numbered, AllLeft, HeldLeft, WithDistance, Nearest, Enters, Entered, atOption};
 ghost use Rattle.least.specs.Holding.{Joins};
 ghost use Rattle.least.specs.Least.{LeastFrom, Least};
-ghost use Rattle.least.specs.Lifting.{Lifted, Closed};
+ghost use Rattle.least.specs.Lifting.{Lifted, FromZero};
 ghost use Rattle.least.specs.Falling.{Seated, Offered, Descends, Descended, Lowered};
 ghost use Rattle.least.specs.Transposing.{TransposedTo, Transposed, Options, Given, Balanced};
 ghost use Rattle.least.specs.Putting.{Ready, Unsearched, Seeking, Changed, Chained, Shifted, Put, everyone, others, Standing, Table};
@@ -577,8 +577,8 @@ fn lift_all(prices: &mut [u16; 64], own: &mut [u16; 64], start: &[u16; 32]) -> u
     waiting
 }
 
-// From the close to the turn: those whose item costs more at the start than at the close are put in again.
-fn turn(
+// On from the least prices from 0 up: those whose item costs more at the start of the rise are put in again.
+fn rise(
     prices: &mut [u16; 64],
     own: &mut [u16; 64],
     start: &[u16; 32],
@@ -586,7 +586,7 @@ fn turn(
     items: usize,
     bidders: usize,
 )
-    requires { ⌜ Closed items bidders (now bids) (now prices) (now own) × Small (now start) × (length (now start) ≡ 32) ⌝ }
+    requires { ⌜ FromZero items bidders (now bids) (now prices) (now own) × Small (now start) × (length (now start) ≡ 32) ⌝ }
     ensures { λ _. ⌜ (length (now (prices .exit)) ≡ 64) × ((x : ℕ) → 32 ≤ x → getD (now (prices .exit)) x 0 ≡ 0)
         × LeastFrom items (rowsOf items bidders (now (bids .entry))) (now (start .entry)) (now (prices .exit)) ⌝ }
 {
@@ -612,6 +612,25 @@ fn narrow(prices: &[u16; 64]) -> [u16; 32]
     first
 }
 
+// The least prices from given ones up, where those from 0 up are known, and who holds what at them.
+fn least_from(
+    base: &[u16],
+    zero: &[u16; 64],
+    holders: &[u16; 64],
+    bids: &[u16],
+    items: usize,
+    bidders: usize,
+) -> [u16; 32]
+    requires { ⌜ FromZero items bidders (now bids) (now zero) (now holders) × Small (now base) × (length (now base) ≤ 32) ⌝ }
+    ensures { λ r. ⌜ Least items (rowsOf items bidders (now (bids .entry))) (now (base .entry)) r ⌝ }
+{
+    let start = prices::in_places(base);
+    let mut prices = *zero;
+    let mut own = *holders;
+    rise(&mut prices, &mut own, &start, bids, items, bidders);
+    narrow(&prices)
+}
+
 // The closing prices, and the prices at the turn.
 pub struct Ends {
     pub close: [u16; 32],
@@ -627,26 +646,29 @@ fn nothing() -> Ends
     }
 }
 
-// The least prices at which no set is overdemanded: from 0 up the closing prices, from the start up those at the turn. Zeros, where the sheet is turned down.
-pub fn close_and_turn(start: &[u16], bids: &[u16], items: usize, bidders: usize) -> Ends
-    ensures least { λ r. ⌜ (sealedRefusal items bidders (now (start .entry)) (now (bids .entry)) ≡ 0
-        → Least items (rowsOf items bidders (now (bids .entry))) (replicate 32 0) (r .close)
+// The least prices at which no set is overdemanded: from the floors up the closing prices, from the start up those at the turn. Zeros, where the sheet is
+// turned down.
+pub fn close_and_turn(
+    start: &[u16],
+    floors: &[u16],
+    bids: &[u16],
+    items: usize,
+    bidders: usize,
+) -> Ends
+    ensures least { λ r. ⌜ (sealedAboveRefusal items bidders (now (start .entry)) (now (floors .entry)) (now (bids .entry)) ≡ 0
+        → Least items (rowsOf items bidders (now (bids .entry))) (now (floors .entry)) (r .close)
         × Least items (rowsOf items bidders (now (bids .entry))) (now (start .entry)) (r .turn)) ⌝ }
-    ensures refused { λ r. ⌜ ((sealedRefusal items bidders (now (start .entry)) (now (bids .entry)) ≡ 0 → ⊥)
+    ensures refused { λ r. ⌜ ((sealedAboveRefusal items bidders (now (start .entry)) (now (floors .entry)) (now (bids .entry)) ≡ 0 → ⊥)
         → (r .close ≡ replicate 32 0) × (r .turn ≡ replicate 32 0)) ⌝ }
 {
-    if bids::refusal(items, bidders, start, bids) != 0 {
+    if bids::refusal_above(items, bidders, start, floors, bids) != 0 {
         return nothing();
     }
     let b = balance(bids, items, bidders);
-    let mut prices = b.prices;
-    let mut own = b.own;
-    fall(&mut prices, &own, [0; 64], bids, items, bidders);
-    let close = narrow(&prices);
-    let first = prices::in_places(start);
-    turn(&mut prices, &mut own, &first, bids, items, bidders);
-    Ends {
-        close: close,
-        turn: narrow(&prices),
-    }
+    let mut zero = b.prices;
+    let own = b.own;
+    fall(&mut zero, &own, [0; 64], bids, items, bidders);
+    let close = least_from(floors, &zero, &own, bids, items, bidders);
+    let turn = least_from(start, &zero, &own, bids, items, bidders);
+    Ends { close, turn }
 }

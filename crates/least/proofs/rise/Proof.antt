@@ -1,7 +1,7 @@
--- `least::turn` meets its contract. Assumes nothing.
+-- `least::rise` meets its contract. Assumes nothing.
 use Rattle.least.proofs.Lifting.{lifted-standing, past-zero, turn-calm, turn-balanced, turn-least}
-use Rattle.least.proofs.turn.Statement.{statement}
-use Rattle.least.proofs.turn.Tie as tie
+use Rattle.least.proofs.rise.Statement.{statement}
+use Rattle.least.proofs.rise.Tie as tie
 
 lift-all-requires : tie.Need-lift-all-requires
 lift-all-requires c κs = (c .before .before .before .pre .0 .lowered .standing .long, c .before .before .before .pre .0 .lowered .standing .long-own)
@@ -29,5 +29,5 @@ returns-2 c =
     let p = c .before .before .before .put-all in
     turn-least (pre .0) (pre .1) (pre .2) (l .ensures) (p .last .0) (p .last .1 .0) (p .ensures) (c .fall .last .0) (c .fall .ensures)
 
-pub turn-spec : {M : Type 1} → statement M
-turn-spec = tie.close (tie.spec lift-all-requires returns put-all-requires fall-requires returns-2)
+pub rise-spec : {M : Type 1} → statement M
+rise-spec = tie.close (tie.spec lift-all-requires returns put-all-requires fall-requires returns-2)
