@@ -1,16 +1,15 @@
--- The close without its rounds: the least prices from the start up at which no set is overdemanded are those at the turn, and from 0 up they are the closing
--- prices. THEORY.md 2.11. Assumes nothing.
+-- The close without its rounds: the least prices from the start up at which no set is overdemanded are those at the turn, and from the floors up they are the
+-- closing prices. THEORY.md 2.11. Assumes nothing.
 use Prim.Native.Nat.{ℕ}
 use mathlib.Core.Path.{_≡_, sym, ap, _∙_}
 use mathlib.Core.List.{List}
 use native.Mathlib.Omega.{arith}
 use native.Mathlib.Nat.{add-zero}
-use lib.ListN.{length-replicate, replicate}
 use Rattle.rule.specs.Sheet.{amount, Sheet}
 use Rattle.rule.specs.Round.{State, path}
 use Rattle.rule.specs.Equilibrium.{Below}
 use Rattle.rule.specs.Closing.{excessDemandAt, Closing}
-use Rattle.rule.proofs.Limits.{Limits, amount-zeros}
+use Rattle.rule.proofs.Limits.{Limits}
 use Rattle.rule.proofs.Closing.{closing-of}
 use Rattle.least.specs.Least.{LeastFrom}
 
@@ -22,33 +21,35 @@ least-turn s c p l i = omega (arith, c .turn-least p (l .above) (l .empty) i, l 
     empty =
         sym (ap (λ (t : State). excessDemandAt s (t .prices)) (c .at-turn)) ∙ ap (λ (k : ℕ). excessDemandAt s (path s k .prices)) (sym (add-zero (c .ups))) ∙ c .calm 0
 
--- the sheet with starting prices of 0 turns where it closes, and has the same close
+-- the sheet that starts at its floors turns where it closes, and has the same close
 
-abbrev fromZero : Sheet → Sheet
-fromZero s = record { items = s .items; start = replicate (s .items) 0; bids = s .bids }
+abbrev fromFloors : Sheet → Sheet
+fromFloors s = record { items = s .items; start = s .floors; floors = s .floors; bids = s .bids }
 
-zero-limits : (s : Sheet) → Limits s → Limits (fromZero s)
-zero-limits s lim =
+floors-limits : (s : Sheet) → Limits s → Limits (fromFloors s)
+floors-limits s lim =
     record {
       some-item = lim .some-item;
       max-items = lim .max-items;
       some-bidder = lim .some-bidder;
       max-bidders = lim .max-bidders;
-      start = record { long = length-replicate {A = ℕ} (s .items) 0; most = λ i. omega (arith, amount-zeros (s .items) i) };
+      start = lim .floors;
+      floors = lim .floors;
+      floor-le = λ i. omega arith;
       rows = lim .rows;
       bid-max = lim .bid-max;
     }
 
-pub least-close : (s : Sheet) → Limits s → (c : Closing s) (p : List ℕ) → LeastFrom (s .items) (s .bids) (replicate 32 0) p → (i : ℕ) → amount p i ≡ amount (c .prices) i
+pub least-close : (s : Sheet) → Limits s → (c : Closing s) (p : List ℕ) → LeastFrom (s .items) (s .bids) (s .floors) p → (i : ℕ) → amount p i ≡ amount (c .prices) i
 unfolding Below
-least-close s lim c p l i = by (closing-of (fromZero s) (zero-limits s lim))
+least-close s lim c p l i = by (closing-of (fromFloors s) (floors-limits s lim))
   where
-    by : Closing (fromZero s) → amount p i ≡ amount (c .prices) i
+    by : Closing (fromFloors s) → amount p i ≡ amount (c .prices) i
     by z =
         omega (
           arith,
-          l .least (c .prices) (λ j. omega (arith, amount-zeros 32 j)) (c .no-excess) i,
+          l .least (c .prices) (c .balance .from-floors) (c .no-excess) i,
           c .least (z .prices) (z .balance) i,
           z .close-below i,
-          z .turn-least p (λ j. omega (arith, amount-zeros (s .items) j)) (l .empty) i,
+          z .turn-least p (l .above) (l .empty) i,
         )

@@ -19,7 +19,7 @@ pub bid-for : (s : Sheet) (r : Closing) → Promised s r → (b : ℕ) → b < l
 unfolding option
 bid-for s r p b l =
     subst (λ (i : ℕ). 0 < i → 0 < amount (row (s .bids) b) i) (sym is)
-    (named-bid (s .items) (aboveFloors (s .items) (p .closing .prices)) (s .bids) (p .closing .prices) names (p .closing .fitting) b l)
+    (named-bid (s .items) (aboveFloors (s .items) (s .floors) (p .closing .prices)) (s .bids) (p .closing .prices) names (p .closing .fitting) b l)
   where
     names : List ℕ
     names = assignmentAt s (p .closing .prices)

@@ -1,12 +1,12 @@
 -- Where the least prices lie: the close of a sheet's path, and as many rounds raised and lowered as the largest rise and the largest fall. The code's prices stand
 -- in 32 places. THEORY.md 2.11. Assumes nothing.
 use Prim.Native.Nat.{ℕ, suc, _-_, _≤_}
-use mathlib.Core.Path.{_≡_, sym, ap, _∙_, fun-ext}
+use mathlib.Core.Path.{_≡_, sym, ap, ap₂, _∙_, fun-ext}
 use mathlib.Core.Bool.{true}
 use mathlib.Core.List.{List}
 use native.Mathlib.Omega.{arith}
 use native.Mathlib.Nat.{zero-add}
-use lib.ListN.{length, getD, replicate, List·getD-eq-default}
+use lib.ListN.{length, getD, List·getD-eq-default}
 use Rattle.sets.specs.Lists.{places}
 use Rattle.sets.proofs.Lists.{is-tabulate}
 use Rattle.rule.specs.Sheet.{Sheet, amount, withinLimits}
@@ -36,12 +36,12 @@ ready s e = let l = limits s e in record { limits = l; closing = closing-of s l 
 pub path-long : (s : Sheet) → length (s .start) ≡ s .items → (k : ℕ) → length (path s k .prices) ≡ s .items
 unfolding path opening
 path-long s e k =
-    kept (s .items) (s .bids) (λ p. length p ≡ s .items) (λ p h. raise-length (s .items) p _) (λ p h. lower-length (s .items) p _) (opening (s .start)) e k
+    kept (s .items) (s .floors) (s .bids) (λ p. length p ≡ s .items) (λ p h. raise-length (s .items) p _) (λ p h. lower-length (s .items) p _) (opening (s .start)) e k
 
--- prices in 32 places: no item past the last is above 0
-pub aboveFloors-wide : (m : ℕ) → m ≤ 32 → (q : List ℕ) → length q ≡ m → aboveFloors 32 (places 32 q) ≡ aboveFloors m q
-aboveFloors-wide m lm q long =
-    aboveFloors-places m lm q long 32 ∙ aboveFloors-narrow m q lm (λ j l. List·getD-eq-default q 0 {n = j} (omega (arith, long, l)))
+-- floors and prices in 32 places: no item past the last is above its floor
+pub aboveFloors-wide : (m : ℕ) → m ≤ 32 → (floors q : List ℕ) → length floors ≡ m → length q ≡ m → aboveFloors 32 (places 32 floors) (places 32 q) ≡ aboveFloors m floors q
+aboveFloors-wide m lm floors q low long =
+    aboveFloors-places m lm floors q low long 32 ∙ aboveFloors-narrow m floors q lm (λ j l. List·getD-eq-default q 0 {n = j} (omega (arith, long, l)))
 
 is-places : (p q : List ℕ) → length p ≡ 32 → ((i : ℕ) → amount p i ≡ amount q i) → p ≡ places 32 q
 unfolding places amount
@@ -61,14 +61,12 @@ module _ (s : Sheet) (g : Ready s) where
   unfolding close
   close-long = path-long s long _
 
-  -- of the closing prices in 32 places none past the items is above 0
-  pub past-items : (p : List ℕ) → p ≡ places 32 (close s .prices) → aboveFloors 32 p ≡ aboveFloors (s .items) p
-  past-items p e =
-      ap (aboveFloors 32) e ∙ aboveFloors-wide (s .items) lm (close s .prices) close-long
-      ∙ sym (ap (aboveFloors (s .items)) e ∙ aboveFloors-places (s .items) lm (close s .prices) close-long (s .items))
+  -- the items of price above the floor at the close, by floors and prices in 32 places
+  pub above-close : (low p : List ℕ) → low ≡ places 32 (s .floors) → p ≡ places 32 (close s .prices) → aboveFloors 32 low p ≡ aboveFloors (s .items) (s .floors) (close s .prices)
+  above-close low p el ep = ap₂ (aboveFloors 32) el ep ∙ aboveFloors-wide (s .items) lm (s .floors) (close s .prices) (g .limits .floors .long) close-long
 
-  -- the least prices that the code finds, from 0 up and from the start up
-  module _ (last : List ℕ) (end : Least (s .items) (s .bids) (replicate 32 0) last) (turn : List ℕ) (top : Least (s .items) (s .bids) (s .start) turn) where
+  -- the least prices that the code finds, from the floors up and from the start up
+  module _ (last : List ℕ) (end : Least (s .items) (s .bids) (s .floors) last) (turn : List ℕ) (top : Least (s .items) (s .bids) (s .start) turn) where
     last-at : (i : ℕ) → amount last i ≡ amount (c .prices) i
     last-at = least-close s (g .limits) c last (end .least)
 

@@ -1,4 +1,4 @@
--- The sealed auction: document 01, "What demand 3 speaks of". Assumes nothing: these are definitions.
+-- The sealed auction: document 01, "What demand 3 speaks of"; with floors, document 02, #103. Assumes nothing: these are definitions.
 use Prim.Native.Nat.{ℕ, zero, suc}
 use mathlib.Core.Path.{_≡_}
 use mathlib.Core.Bool.{true}
@@ -9,8 +9,8 @@ use Rattle.rule.specs.Sheet.{Sheet, withinLimits}
 use Rattle.rule.specs.Round.{close}
 use Rattle.rule.specs.Closing.{assignmentAt}
 use Rattle.rule.specs.Closing as rule
-use Rattle.bids.specs.Lent.{sheetOf}
-use Rattle.bids.specs.Refusal.{sealedRefusal}
+use Rattle.bids.specs.Lent.{sheetAbove, sheetOf}
+use Rattle.bids.specs.Refusal.{sealedAboveRefusal, sealedRefusal}
 use Rattle.auction.specs.declared.Closing.{Closing}
 
 -- beside a number, zeros only
@@ -33,6 +33,10 @@ unfoldable pub outcome : ℕ → Sheet → Closing
 outcome zero s = closed s
 outcome (suc why) s = refused (suc why)
 
+unfoldable pub sealedAboveOf : ℕ → ℕ → (start floors bids : List ℕ) → Closing
+sealedAboveOf m n start floors bids = outcome (sealedAboveRefusal m n start floors bids) (sheetAbove m n start floors bids)
+
+-- and without floors: they are 0
 unfoldable pub sealedOf : ℕ → ℕ → List ℕ → List ℕ → Closing
 sealedOf m n start bids = outcome (sealedRefusal m n start bids) (sheetOf m n start bids)
 

@@ -5,9 +5,9 @@ ghost use Rattle.sets.specs.Lists.{places};
 ghost use Rattle.rule.specs.Sheet.{amount};
 ghost use Rattle.rule.specs.Round.{close};
 ghost use Rattle.rule.specs.Equilibrium.{greatest};
-ghost use Rattle.bids.specs.Lent.{sheetOf};
-ghost use Rattle.bids.specs.Refusal.{sealedRefusal};
-ghost use Rattle.auction.specs.Sealed.{sealedOf, Promised};
+ghost use Rattle.bids.specs.Lent.{sheetAbove, sheetOf};
+ghost use Rattle.bids.specs.Refusal.{sealedAboveRefusal};
+ghost use Rattle.auction.specs.Sealed.{refused, sealedAboveOf, sealedOf, Promised};
 
 // ---- the close, without its rounds
 
@@ -31,16 +31,16 @@ struct Path {
     prices: [u16; 32],
 }
 
-// No round is played: the least prices from the start up are those at the turn, the least from 0 up the closing prices, and the rounds are the
+// No round is played: the least prices from the start up are those at the turn, the least from the floors up the closing prices, and the rounds are the
 // largest rise and the largest fall.
-fn rounds(start: &[u16], bids: &[u16], items: usize, bidders: usize) -> Path
-    requires { ⌜ sealedRefusal items bidders (now start) (now bids) ≡ 0 ⌝ }
-    ensures { λ r. ⌜ (r .raised ≡ close (sheetOf items bidders (now (start .entry)) (now (bids .entry))) .ups)
-        × (r .lowered ≡ close (sheetOf items bidders (now (start .entry)) (now (bids .entry))) .downs)
-        × (r .prices ≡ places 32 (close (sheetOf items bidders (now (start .entry)) (now (bids .entry))) .prices)) ⌝ }
+fn rounds(start: &[u16], floors: &[u16], bids: &[u16], items: usize, bidders: usize) -> Path
+    requires { ⌜ sealedAboveRefusal items bidders (now start) (now floors) (now bids) ≡ 0 ⌝ }
+    ensures { λ r. ⌜ (r .raised ≡ close (sheetAbove items bidders (now (start .entry)) (now (floors .entry)) (now (bids .entry))) .ups)
+        × (r .lowered ≡ close (sheetAbove items bidders (now (start .entry)) (now (floors .entry)) (now (bids .entry))) .downs)
+        × (r .prices ≡ places 32 (close (sheetAbove items bidders (now (start .entry)) (now (floors .entry)) (now (bids .entry))) .prices)) ⌝ }
 {
     let first = prices::in_places(start);
-    let ends = least::close_and_turn(start, bids, items, bidders);
+    let ends = least::close_and_turn(start, floors, bids, items, bidders);
     let turn = ends.turn;
     let close = ends.close;
     Path {
@@ -62,25 +62,39 @@ pub struct Closing {
     pub assignment: [u8; 64],
 }
 
-// The sealed auction: starting prices, one for each item, and bids, bidder after bidder.
-pub fn sealed(items: usize, bidders: usize, start: &[u16], bids: &[u16]) -> Closing
-    ensures outcome { λ r. ⌜ r ≡ sealedOf items bidders (now (start .entry)) (now (bids .entry)) ⌝ }
-    ensures promised { λ r. ⌜ (r .refusal ≡ 0 → Promised (sheetOf items bidders (now (start .entry)) (now (bids .entry))) r) ⌝ }
+// Beside a number, zeros only.
+fn refused(why: u8) -> Closing
+    ensures { λ r. ⌜ r ≡ refused why ⌝ }
 {
-    let why = bids::refusal(items, bidders, start, bids);
-    if why != 0 {
-        return Closing {
-            refusal: why,
-            raised: 0,
-            lowered: 0,
-            prices: [0; 32],
-            assignment: [0; 64],
-        };
+    Closing {
+        refusal: why,
+        raised: 0,
+        lowered: 0,
+        prices: [0; 32],
+        assignment: [0; 64],
     }
-    let path = rounds(start, bids, items, bidders);
+}
+
+// The sealed auction with floors: starting prices and floors, one for each item, and bids, bidder after bidder.
+pub fn sealed_above(
+    items: usize,
+    bidders: usize,
+    start: &[u16],
+    floors: &[u16],
+    bids: &[u16],
+) -> Closing
+    ensures outcome { λ r. ⌜ r ≡ sealedAboveOf items bidders (now (start .entry)) (now (floors .entry)) (now (bids .entry)) ⌝ }
+    ensures promised { λ r. ⌜ (r .refusal ≡ 0 → Promised (sheetAbove items bidders (now (start .entry)) (now (floors .entry)) (now (bids .entry))) r) ⌝ }
+{
+    let why = bids::refusal_above(items, bidders, start, floors, bids);
+    if why != 0 {
+        return refused(why);
+    }
+    let path = rounds(start, floors, bids, items, bidders);
     let last = path.prices;
     let d = demands::demands_at(&last, bids, items, bidders);
-    let names = assignment::first(&d.sets, d.nulls, round::above_floors(&last), bidders);
+    let low = prices::in_places(floors);
+    let names = assignment::first(&d.sets, d.nulls, round::above_floors(&low, &last), bidders);
     Closing {
         refusal: 0,
         raised: path.raised,
@@ -88,4 +102,16 @@ pub fn sealed(items: usize, bidders: usize, start: &[u16], bids: &[u16]) -> Clos
         prices: last,
         assignment: names,
     }
+}
+
+// The sealed auction: starting prices, one for each item, and bids, bidder after bidder. The floors are 0.
+pub fn sealed(items: usize, bidders: usize, start: &[u16], bids: &[u16]) -> Closing
+    ensures outcome { λ r. ⌜ r ≡ sealedOf items bidders (now (start .entry)) (now (bids .entry)) ⌝ }
+    ensures promised { λ r. ⌜ (r .refusal ≡ 0 → Promised (sheetOf items bidders (now (start .entry)) (now (bids .entry))) r) ⌝ }
+{
+    if 32 < items {
+        return refused(1);
+    }
+    let floors = [0u16; 32];
+    sealed_above(items, bidders, start, &floors[..items], bids)
 }
