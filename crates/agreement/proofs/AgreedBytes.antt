@@ -14,7 +14,7 @@ use Rattle.digits.specs.Reading.{digitValue, digitAt, numberAt}
 use Rattle.lines.specs.Lines.{closingLength}
 use Rattle.lines.specs.Reading.{numbersAt, endsAt, lineAt}
 use Rattle.live.specs.Reading.{readBytes}
-use Rattle.bids.specs.Lent.{lineOf, rowsOf, sheetOf}
+use Rattle.bids.specs.Lent.{lineOf, rowsOf, sheetAbove, sheetOf}
 use Rattle.sheet.specs.BidSheet.{itemsIn, biddersIn, bidsAt, readSheet}
 use Rattle.sheet.specs.Close.{itemsOf, biddersOf, bidSheetOf, sheetRefusal, closedTo}
 use Rattle.sheet.specs.Accepted.{sheetIn}
@@ -28,7 +28,7 @@ use Rattle.agreement.proofs.Sheets.{reads-sheet}
 
 -- the definitions that the bytes are read by
 computing : Unit {0}
-unfolding anyBelow tabulate first badItems badBidders anyOver digitValue digitAt numberAt closingLength numbersAt endsAt lineAt lineOf rowsOf sheetOf itemsIn biddersIn bidsAt readSheet itemsOf biddersOf bidSheetOf sheetRefusal sheetIn
+unfolding anyBelow tabulate first badItems badBidders anyOver digitValue digitAt numberAt closingLength numbersAt endsAt lineAt lineOf rowsOf sheetOf sheetAbove itemsIn biddersIn bidsAt readSheet itemsOf biddersOf bidSheetOf sheetRefusal sheetIn
 computing = tt
 
 -- the lines 01010001 and 0001

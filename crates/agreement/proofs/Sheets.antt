@@ -21,7 +21,7 @@ use Rattle.live.specs.declared.Phase.{Phase}
 use Rattle.sheet.specs.Close.{bidSheetOf, sheetRefusal, closingOf, byNumber, closedTo}
 use Rattle.sheet.specs.Accepted.{sheetIn, sheetOfClosing}
 use Rattle.sheet.proofs.Accepted.{promised, as-many, closing-is, by-room}
-use Rattle.bids.specs.Lent.{sheetOf}
+use Rattle.bids.specs.Lent.{sheetAbove, sheetOf}
 use Rattle.agreement.specs.Calls.{Call, reporting, ending, clearing, reading, Answer, shown}
 use Rattle.agreement.specs.Machine.{Machine, begin, Outcome, answers, leaves, sealedSheet, machineReadNumber, machineRead, machine, MachineRan, ran, left, behind, machineRun}
 use Rattle.agreement.specs.Agreement.{liveRun, standsFor}
@@ -44,7 +44,7 @@ module _ (bytes : List ℕ) (room : ℕ) (e : sheetRefusal bytes room ≡ 0) whe
 
   -- with any lent bytes: closing is turned down by 3 or not at all
   number-is : (out : List ℕ) → sheetRefusal bytes (length out) ≡ first (on 3 (ltb (length out) (closingLength (s .items) (length (s .bids)))) ∷ [])
-  unfolding sheetIn sheetOf
+  unfolding sheetIn sheetOf sheetAbove
   number-is out =
       by-room bytes room e (length out)
       ∙ ap (λ (n : ℕ). first (on 3 (ltb (length out) (closingLength (s .items) n)) ∷ [])) (sym (as-many bytes room e))

@@ -16,7 +16,7 @@ use Rattle.rule.proofs.Limits.{limits}
 use Rattle.rule.proofs.Refusal.{none, passed, first-nil}
 use Rattle.rule.proofs.Fitting.{fits-use}
 use Rattle.rule.proofs.AtPrices.{demands-length}
-use Rattle.bids.specs.Lent.{sheetOf}
+use Rattle.bids.specs.Lent.{sheetAbove, sheetOf}
 use Rattle.bids.specs.Refusal.{sealedRefusal}
 use Rattle.bids.proofs.Lent.{rows-length}
 use Rattle.auction.specs.Sealed.{sealedOf, Promised}
@@ -65,21 +65,21 @@ module _ (m n : ℕ) (start bids rounds prices options : List ℕ) (e : lentRefu
   c = promise .closing
 
   as-items : length (c .prices) ≡ m
-  unfolding sheetOf
+  unfolding sheetOf sheetAbove
   as-items = sym (ap (λ (q : State). length (q .prices)) (c .close-is)) ∙ close-long s (ready s (promise .within))
 
   as-bidders : length (assignmentAt s (c .prices)) ≡ n
-  unfolding sheetOf
+  unfolding sheetOf sheetAbove
   as-bidders =
       fits-use m (aboveFloors m (c .prices)) (demandsAt s (c .prices)) (assignmentAt s (c .prices)) (c .fitting) .assigns .all
       ∙ demands-length m (s .bids) (c .prices) ∙ rows-length m n bids
 
   few-items : m ≤ 32
-  unfolding sheetOf
+  unfolding sheetOf sheetAbove
   few-items = limits s (promise .within) .max-items
 
   few-bidders : n ≤ 64
-  unfolding sheetOf
+  unfolding sheetOf sheetAbove
   few-bidders = omega (arith, limits s (promise .within) .max-bidders, rows-length m n bids)
 
   back : LentBack m n start bids (sealedOf m n start bids .raised ∷ sealedOf m n start bids .lowered ∷ []) (places m (sealedOf m n start bids .prices)) (places n (sealedOf m n start bids .assignment))

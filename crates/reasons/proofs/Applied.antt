@@ -18,7 +18,7 @@ use Rattle.digits.specs.Digits.{digit, hex}
 use Rattle.digits.specs.Reading.{digitValue, digitAt, numberAt}
 use Rattle.lines.specs.Lines.{newline, joined, numberText, numberLine}
 use Rattle.lines.specs.Reading.{numbersAt, endsAt, lineAt}
-use Rattle.bids.specs.Lent.{lineOf, rowsOf, sheetOf}
+use Rattle.bids.specs.Lent.{lineOf, rowsOf, sheetAbove, sheetOf}
 use Rattle.sheet.specs.BidSheet.{itemsIn, biddersIn, bidsAt, readSheet}
 use Rattle.sheet.specs.Close.{itemsOf, biddersOf, bidSheetOf}
 use Rattle.sheet.specs.Contents.{bidSheetRefusal}
@@ -32,7 +32,7 @@ computing = tt
 
 -- and those by which a bid sheet is read
 reading : Unit {0}
-unfolding first badItems badBidders anyOver digitValue digitAt numberAt numbersAt endsAt lineAt lineOf rowsOf sheetOf itemsIn biddersIn bidsAt readSheet itemsOf biddersOf bidSheetOf bidSheetRefusal sheetIn
+unfolding first badItems badBidders anyOver digitValue digitAt numberAt numbersAt endsAt lineAt lineOf rowsOf sheetOf sheetAbove itemsIn biddersIn bidsAt readSheet itemsOf biddersOf bidSheetOf bidSheetRefusal sheetIn
 reading = tt
 
 -- ---- a line

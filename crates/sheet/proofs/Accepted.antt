@@ -16,7 +16,7 @@ use Rattle.rule.proofs.Limits.{limits}
 use Rattle.rule.proofs.Refusal.{passed, given, first-nil, none}
 use Rattle.lines.specs.Lines.{numberLine, closingSheet, closingLength, writtenTo}
 use Rattle.lines.proofs.Same.{sheet-same}
-use Rattle.bids.specs.Lent.{sheetOf}
+use Rattle.bids.specs.Lent.{sheetAbove, sheetOf}
 use Rattle.bids.specs.Refusal.{sealedRefusal}
 use Rattle.bids.proofs.Lent.{rows-length}
 use Rattle.auction.specs.Sealed.{Promised}
@@ -56,12 +56,12 @@ module _ (bytes : List ℕ) (room : ℕ) (e : sheetRefusal bytes room ≡ 0) whe
   promised = accepted-promised (s .items) (s .bidders) (s .start) (s .bids) accepted
 
   pub as-many : length (sheetIn bytes .bids) ≡ s .bidders
-  unfolding sheetIn sheetOf
+  unfolding sheetIn sheetOf sheetAbove
   as-many = rows-length (s .items) (s .bidders) (s .bids)
 
   -- and what is written down is the closing sheet of that close
   pub closing-is : closingOf s ≡ sheetOfClosing (sheetIn bytes) (promised .closing)
-  unfolding closingOf sheetOfClosing sealedIn sheetIn sheetOf
+  unfolding closingOf sheetOfClosing sealedIn sheetIn sheetOf sheetAbove
   closing-is =
       let c = promised .closing in
       let lim = limits (sheetIn bytes) (promised .within) in

@@ -10,7 +10,7 @@ use Rattle.rule.specs.Refusal.{first, badItems, badBidders, anyOver}
 use Rattle.digits.specs.Reading.{digitValue, digitAt, numberAt}
 use Rattle.lines.specs.Lines.{closingLength}
 use Rattle.lines.specs.Reading.{numbersAt, endsAt, lineAt}
-use Rattle.bids.specs.Lent.{lineOf, rowsOf, sheetOf}
+use Rattle.bids.specs.Lent.{lineOf, rowsOf, sheetAbove, sheetOf}
 use Rattle.sheet.specs.BidSheet.{itemsIn, biddersIn, bidsAt, readSheet}
 use Rattle.sheet.specs.Close.{itemsOf, biddersOf, bidSheetOf, sheetRefusal}
 use Rattle.sheet.specs.Contents.{bidSheetRefusal, contents, contentsOf}
@@ -18,7 +18,7 @@ use Rattle.sheet.specs.Accepted.{sheetIn}
 
 -- the definitions that the cases compute with
 computing : Unit {0}
-unfolding anyBelow tabulate places first badItems badBidders anyOver digitValue digitAt numberAt closingLength numbersAt endsAt lineAt lineOf rowsOf sheetOf itemsIn biddersIn bidsAt readSheet itemsOf biddersOf bidSheetOf sheetRefusal bidSheetRefusal contents contentsOf sheetIn
+unfolding anyBelow tabulate places first badItems badBidders anyOver digitValue digitAt numberAt closingLength numbersAt endsAt lineAt lineOf rowsOf sheetOf sheetAbove itemsIn biddersIn bidsAt readSheet itemsOf biddersOf bidSheetOf sheetRefusal bidSheetRefusal contents contentsOf sheetIn
 computing = tt
 
 -- the lines 01020001, 0002 and 0002
@@ -26,7 +26,7 @@ abbrev twoBytes : List ℕ
 twoBytes = 48 ∷ 49 ∷ 48 ∷ 50 ∷ 48 ∷ 48 ∷ 48 ∷ 49 ∷ 10 ∷ 48 ∷ 48 ∷ 48 ∷ 50 ∷ 10 ∷ 48 ∷ 48 ∷ 48 ∷ 50 ∷ 10 ∷ []
 
 -- what they say
-pub says : sheetIn twoBytes ≡ record { items = 1; start = 1 ∷ []; bids = (2 ∷ []) ∷ (2 ∷ []) ∷ [] }
+pub says : sheetIn twoBytes ≡ record { items = 1; start = 1 ∷ []; floors = 0 ∷ []; bids = (2 ∷ []) ∷ (2 ∷ []) ∷ [] }
 unfolding computing
 says = refl
 

@@ -12,7 +12,7 @@ use Rattle.rule.specs.Round.{path}
 use Rattle.rule.specs.Reasons.{roundCount}
 use Rattle.rule.proofs.Reasons.{count-most}
 use Rattle.lines.specs.Lines.{joined}
-use Rattle.bids.specs.Lent.{sheetOf}
+use Rattle.bids.specs.Lent.{sheetAbove, sheetOf}
 use Rattle.bids.specs.Refusal.{sealedRefusal}
 use Rattle.bids.proofs.Limits.{fine, accepted-within}
 use Rattle.auction.proofs.Settling.{Ready, ready}
@@ -41,13 +41,13 @@ in-places-requires : tie.Need-in-places-requires Inv-loop μ-loop
 in-places-requires c κs = search needs
 
 loop-holds : tie.Need-loop-holds Inv-loop μ-loop
-unfolding joined sheetOf
+unfolding joined sheetOf sheetAbove
 loop-holds c =
     let a = c .before .before .before .before .args in
     (at-start (sheetOf (a .items) (a .bidders) (a .start .now) (a .bids .now)) (closes (a .items) (a .bidders) (a .start .now) (a .bids .now) (c .before .before .before .before .pre .0)) (c .in-places .result) (c .in-places .ensures), refl, omega arith, refl)
 
 reason-at-requires : tie.Need-reason-at-requires Inv-loop μ-loop
-unfolding sheetOf
+unfolding sheetOf sheetAbove
 reason-at-requires c κs =
     let a = c .before .before .before .before .before .before .before .args in
     let pre = c .before .before .before .before .before .before .before .pre in
@@ -77,7 +77,7 @@ loop-less : tie.Need-loop-less Inv-loop μ-loop
 loop-less c = search needs
 
 loop-again : tie.Need-loop-again Inv-loop μ-loop
-unfolding sheetOf
+unfolding sheetOf sheetAbove
 loop-again c =
     let a = c .before .before .before .before .before .before .before .before .before .before .before .before .before .before .args in
     let pre = c .before .before .before .before .before .before .before .before .before .before .before .before .before .before .pre in
