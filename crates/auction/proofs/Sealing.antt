@@ -30,17 +30,17 @@ use Rattle.auction.proofs.Settling.{Ready, ready, close-long, above-clo
 
 module _ (m n : ℕ) (start floors bids : List ℕ) where
   -- by the number
-  pub sealed-refused : (why : ℕ) → why ≡ sealedAboveRefusal m n start floors bids → (why ≡ 0 → ⊥) → refused why ≡ sealedAboveOf m n start floors bids
+  pub above-refused : (why : ℕ) → why ≡ sealedAboveRefusal m n start floors bids → (why ≡ 0 → ⊥) → refused why ≡ sealedAboveOf m n start floors bids
   unfolding sealedAboveOf outcome
-  sealed-refused why e ne = go why ne ∙ ap (λ (y : ℕ). outcome y (sheetAbove m n start floors bids)) e
+  above-refused why e ne = go why ne ∙ ap (λ (y : ℕ). outcome y (sheetAbove m n start floors bids)) e
     where
       go : (x : ℕ) → (x ≡ 0 → ⊥) → refused x ≡ outcome x (sheetAbove m n start floors bids)
       go zero h = absurd (h refl)
       go (suc k) h = refl
 
-  pub sealed-closed : sealedAboveRefusal m n start floors bids ≡ 0 → closed (sheetAbove m n start floors bids) ≡ sealedAboveOf m n start floors bids
+  pub above-closed : sealedAboveRefusal m n start floors bids ≡ 0 → closed (sheetAbove m n start floors bids) ≡ sealedAboveOf m n start floors bids
   unfolding sealedAboveOf outcome
-  sealed-closed e = ap (λ (y : ℕ). outcome y (sheetAbove m n start floors bids)) (sym e)
+  above-closed e = ap (λ (y : ℕ). outcome y (sheetAbove m n start floors bids)) (sym e)
 
   pub above-number : sealedAboveOf m n start floors bids .refusal ≡ sealedAboveRefusal m n start floors bids
   unfolding sealedAboveOf outcome refused closed
@@ -54,6 +54,10 @@ module _ (m n : ℕ) (start floors bids : List ℕ) where
 pub zero-floors : (m n : ℕ) (start bids : List ℕ) → sealedAboveOf m n start (replicate m 0) bids ≡ sealedOf m n start bids
 unfolding sealedAboveOf sealedOf sheetOf
 zero-floors m n start bids = ap (λ (y : ℕ). outcome y (sheetOf m n start bids)) (without-floors m n start bids)
+
+pub sealed-closed : (m n : ℕ) (start bids : List ℕ) → sealedRefusal m n start bids ≡ 0 → closed (sheetOf m n start bids) ≡ sealedOf m n start bids
+unfolding sheetOf
+sealed-closed m n start bids e = above-closed m n start (replicate m 0) bids (without-floors m n start bids ∙ e) ∙ zero-floors m n start bids
 
 -- more than 32 items are turned down first
 pub too-many-items : (m n : ℕ) (start bids : List ℕ) → 32 < m → refused 1 ≡ sealedOf m n start bids
@@ -86,7 +90,7 @@ pub above-promised : (m n : ℕ) (start floors bids : List ℕ) (r : Closing) �
     → Promised (sheetAbove m n start floors bids) r
 above-promised m n start floors bids r e z =
     let none : sealedAboveRefusal m n start floors bids ≡ 0 = sym (above-number m n start floors bids) ∙ sym (ap (λ (x : Closing). x .refusal) e) ∙ z in
-    subst (λ (x : Closing). Promised (sheetAbove m n start floors bids) x) (sealed-closed m n start floors bids none ∙ sym e)
+    subst (λ (x : Closing). Promised (sheetAbove m n start floors bids) x) (above-closed m n start floors bids none ∙ sym e)
     (promise (sheetAbove m n start floors bids) (accepted-within m n start floors bids none .1))
 
 pub sealed-promised : (m n : ℕ) (start bids : List ℕ) (r : Closing) → r ≡ sealedOf m n start bids → r .refusal ≡ 0 → Promised (sheetOf m n start bids) r

@@ -27,7 +27,8 @@ use Rattle.reasons.specs.Steps.{movingSet, moveBy, ReasonIs, pricesAfter
 use Rattle.reasons.specs.declared.Reason.{Reason}
 use Rattle.reasons.proofs.Lines.{lineOf}
 
-module _ (s : Sheet) (g : Ready s) where
+-- `low` are the floors, as the code holds them
+module _ (s : Sheet) (g : Ready s) (low : List ℕ) (floored : low ≡ places 32 (s .floors)) where
   abbrev c : Closing s
   c = g .closing
 
@@ -52,13 +53,16 @@ module _ (s : Sheet) (g : Ready s) where
     in-places : (i : ℕ) → amount (places 32 q) i ≡ amount q i
     in-places = places-amount items most q (long k)
 
-    pub past-items : aboveFloors 32 p ≡ aboveFloors (s .items) p
+    above-is : aboveFloors items low p ≡ aboveFloors items (s .floors) q
+    above-is = ap₂ (aboveFloors items) floored here ∙ aboveFloors-places items most (s .floors) q (g .limits .floors .long) (long k) items
+
+    pub past-items : aboveFloors 32 low p ≡ aboveFloors (s .items) low p
     past-items =
-        ap (aboveFloors 32) here ∙ aboveFloors-wide items most q (long k) ∙ sym (ap (aboveFloors items) here ∙ aboveFloors-places items most q (long k) items)
+        ap₂ (aboveFloors 32) floored here ∙ aboveFloors-wide items most (s .floors) q (g .limits .floors .long) (long k) ∙ sym above-is
 
     module _ (falls : Bool) (turned : falls ≡ leb (close s .ups) k) where
       abbrev set : ℕ
-      set = movingSet falls items (aboveFloors items q) (demandsAt s q)
+      set = movingSet falls items (aboveFloors items (s .floors) q) (demandsAt s q)
 
       -- the rounds to the turn raise, the others lower
       round-is : roundOf s k ≡ moveBy falls set
@@ -67,7 +71,7 @@ module _ (s : Sheet) (g : Ready s) where
           ups-is : close s .ups ≡ c .ups
           ups-is = ap (λ (t : State). t .ups) (c .close-is)
 
-          by : (f : Bool) → f ≡ leb (close s .ups) k → roundOf s k ≡ moveBy f (movingSet f items (aboveFloors items q) (demandsAt s q))
+          by : (f : Bool) → f ≡ leb (close s .ups) k → roundOf s k ≡ moveBy f (movingSet f items (aboveFloors items (s .floors) q) (demandsAt s q))
           by false e = c .rises k (omega (arith, ups-is, leb-false (close s .ups) k (sym e)))
           by true e =
               let since : k ≡ c .ups + (k - c .ups) = omega (arith, ups-is, leb-true (close s .ups) k (sym e)) in
@@ -77,18 +81,18 @@ module _ (s : Sheet) (g : Ready s) where
       set-small : set < 2 ^ items
       set-small = by falls
         where
-          by : (f : Bool) → movingSet f items (aboveFloors items q) (demandsAt s q) < 2 ^ items
+          by : (f : Bool) → movingSet f items (aboveFloors items (s .floors) q) (demandsAt s q) < 2 ^ items
           by false = demand-bound items (demandsAt s q)
-          by true = supply-bound items (aboveFloors items q) (demandsAt s q)
+          by true = supply-bound items (aboveFloors items (s .floors) q) (demandsAt s q)
 
-      module _ (r : Reason) (found : ReasonIs (s .items) (aboveFloors (s .items) p) (demands (s .items) (s .bids) p) falls r) where
+      module _ (r : Reason) (found : ReasonIs (s .items) (aboveFloors (s .items) low p) (demands (s .items) (s .bids) p) falls r) where
         -- at the path's own prices
-        found-there : ReasonIs items (aboveFloors items q) (demandsAt s q) falls r
+        found-there : ReasonIs items (aboveFloors items (s .floors) q) (demandsAt s q) falls r
         found-there =
-            subst (λ (ds : List Demand). ReasonIs items (aboveFloors items q) ds falls r)
+            subst (λ (ds : List Demand). ReasonIs items (aboveFloors items (s .floors) q) ds falls r)
             (ap (demands items (s .bids)) here ∙ demands-places items most q (long k) (s .bids))
             (subst (λ (a : ℕ). ReasonIs items a (demands items (s .bids) p) falls r)
-            (ap (aboveFloors items) here ∙ aboveFloors-places items most q (long k) items) found)
+            above-is found)
 
         pub line-is : reasonLine (k + 1) (record { kind = r .kind; items = r .items; bidders = r .bidders }) ≡ lineOf s k
         unfolding reasonAt

@@ -51,7 +51,7 @@ line = refl
 
 -- two items at 0 and 1, and two bidders who bid 1 and 0. Both demand item 1, which rises; then item 2, which nobody demands, falls; and at (1, 0) it closes
 abbrev upAndDown : Sheet
-upAndDown = record { items = 2; start = 0 ∷ 1 ∷ []; bids = (1 ∷ 0 ∷ []) ∷ (1 ∷ 0 ∷ []) ∷ [] }
+upAndDown = record { items = 2; start = 0 ∷ 1 ∷ []; floors = 0 ∷ 0 ∷ []; bids = (1 ∷ 0 ∷ []) ∷ (1 ∷ 0 ∷ []) ∷ [] }
 
 closes : roundOf upAndDown 2 ≡ closed
 unfolding computing
@@ -60,7 +60,7 @@ closes = refl
 -- from then on its path stays: 2 rounds are computed and not 8,190
 stays : close upAndDown ≡ path upAndDown 2
 unfolding close path mostRounds
-stays = after-add 2 (upAndDown .bids) (opening (upAndDown .start)) 2 8188 ∙ after-closed 2 (upAndDown .bids) (path upAndDown 2) closes 8188
+stays = after-add 2 (upAndDown .floors) (upAndDown .bids) (opening (upAndDown .start)) 2 8188 ∙ after-closed 2 (upAndDown .floors) (upAndDown .bids) (path upAndDown 2) closes 8188
 
 -- a line for each round, numbered from 1 and on past the turn
 pub numbered : reasonSheet upAndDown ≡ reasonLine 1 (record { kind = 1; items = 1; bidders = 3 }) ++ reasonLine 2 (record { kind = 2; items = 2; bidders = 0 })

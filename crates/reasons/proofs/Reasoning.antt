@@ -17,23 +17,23 @@ use Rattle.demands.specs.declared.Demands.{Demands}
 use Rattle.demands.proofs.Demanding.{Complete, Demanded, demanded}
 use Rattle.reasons.specs.Steps.{countsFor, movingSet, ReasonIs}
 
-module _ (m n : ℕ) (prices bids : List ℕ) (c : Complete m n (length bids)) (past : aboveFloors 32 prices ≡ aboveFloors m prices) (falls : Bool)
+module _ (m n : ℕ) (floors prices bids : List ℕ) (c : Complete m n (length bids)) (past : aboveFloors 32 floors prices ≡ aboveFloors m floors prices) (falls : Bool)
     (d : Demands) (e : d ≡ held (demandsOf m n prices bids)) where
   abbrev ds : List Demand
   ds = demands m (rowsOf m n bids) prices
 
   abbrev above : ℕ
-  above = aboveFloors m prices
+  above = aboveFloors m floors prices
 
   found : Demanded m n prices bids c d
   found = demanded m n prices bids c d e
 
   -- the set that moves is that of m items and n bidders
-  set-is : (a : ℕ) → a ≡ aboveFloors 32 prices → movingSet falls 32 a (reports 64 (d .sets) (d .nulls)) ≡ movingSet falls m above ds
+  set-is : (a : ℕ) → a ≡ aboveFloors 32 floors prices → movingSet falls 32 a (reports 64 (d .sets) (d .nulls)) ≡ movingSet falls m above ds
   set-is a ea =
       let q : a ≡ above = ea ∙ past in
       ap₂ (λ (x y : ℕ). cond falls x y)
-      (falling-narrow m n (d .sets) (found .reported) (d .nulls) a (subst (λ (x : ℕ). x < 2 ^ m) (sym q) (aboveFloors-lt m prices))
+      (falling-narrow m n (d .sets) (found .reported) (d .nulls) a (subst (λ (x : ℕ). x < 2 ^ m) (sym q) (aboveFloors-lt m floors prices))
       ∙ ap₂ (excessSupply m) q (found .same))
       (rising-narrow m n (d .sets) (found .reported) (d .nulls) ∙ ap (excessDemand m) (found .same))
 
@@ -51,7 +51,7 @@ module _ (m n : ℕ) (prices bids : List ℕ) (c : Complete m n (length bids)) (
           ap₂ (λ (x y : Bool). cond falls x y)
           (something-narrow m (c .max-items) s (nth said b) small) (outside-narrow m (c .max-items) s (nth said b) small)
 
-  pub reason-is : (a s k w : ℕ) → a ≡ aboveFloors 32 prices → s ≡ movingSet falls 32 a (reports 64 (d .sets) (d .nulls)) → k ≡ cond falls 2 1
+  pub reason-is : (a s k w : ℕ) → a ≡ aboveFloors 32 floors prices → s ≡ movingSet falls 32 a (reports 64 (d .sets) (d .nulls)) → k ≡ cond falls 2 1
       → w ≡ biddersWith (reports n (d .sets) (d .nulls)) (countsFor falls 32 s) → ReasonIs m above ds falls (record { kind = k; items = s; bidders = w })
   unfolding reasonOf
   reason-is a s k w ea es ek ew =

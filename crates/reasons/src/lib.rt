@@ -2,7 +2,7 @@
 ghost use mathlib.Core.Path.{_≡_};
 ghost use mathlib.Core.Bool.{cond};
 ghost use Prim.Native.Nat.{_+_, _*_, _≤_};
-ghost use lib.ListN.{length};
+ghost use lib.ListN.{length, replicate};
 ghost use lib.Seq.{sets};
 ghost use Rattle.rule.specs.Demand.{demands};
 ghost use Rattle.rule.specs.Excess.{aboveFloors};
@@ -75,15 +75,16 @@ struct Reason {
     bidders: u64,
 }
 
-// The reason of the round at prices.
+// The reason of the round at prices. A bid sheet has floors of 0.
 fn reason_at(prices: &[u16; 32], bids: &[u16], items: usize, bidders: usize, falls: bool) -> Reason
-    requires { ⌜ (items ≤ 32) × (bidders ≤ 64) × (length (now bids) ≡ bidders * items) × (aboveFloors 32 (now prices) ≡ aboveFloors items (now prices)) ⌝ }
-    ensures { λ r. ⌜ ReasonIs items (aboveFloors items (now (prices .entry))) (demands items (rowsOf items bidders (now (bids .entry))) (now (prices .entry))) falls r ⌝ }
+    requires { ⌜ (items ≤ 32) × (bidders ≤ 64) × (length (now bids) ≡ bidders * items) × (aboveFloors 32 (replicate 32 0) (now prices) ≡ aboveFloors items (replicate 32 0) (now prices)) ⌝ }
+    ensures { λ r. ⌜ ReasonIs items (aboveFloors items (replicate 32 0) (now (prices .entry))) (demands items (rowsOf items bidders (now (bids .entry))) (now (prices .entry))) falls r ⌝ }
 {
     let d = demands::demands_at(prices, bids, items, bidders);
     let sets = d.sets;
     let nulls = d.nulls;
-    let set = moving(&sets, nulls, round::above_floors(prices), falls);
+    let floors = [0u16; 32];
+    let set = moving(&sets, nulls, round::above_floors(&floors, prices), falls);
     Reason {
         kind: kind(falls),
         items: set,

@@ -10,7 +10,7 @@ use lib.Seq.{getD-set-same, getD-set-other, getD-drop, getD-append-add, ext-getD
 use borrow.Author.Count.{below-none, below-more}
 use Rattle.sets.specs.Lists.{tabulate, places}
 use Rattle.sets.proofs.Counting.{lt-or-le}
-use Rattle.sets.proofs.Lists.{is-tabulate}
+use Rattle.sets.proofs.Lists.{is-tabulate, places-length, places-at}
 
 pub zeros-at : (n k : ℕ) → _≡_ {A = ℕ} (getD (replicate n 0) k 0) 0
 zeros-at n k = go (lt-or-le k n)
@@ -75,3 +75,9 @@ zeros-part m w l =
     let long : length (take m zeros) ≡ m = length-take-le m zeros (omega (arith, length-replicate {A = ℕ} w 0)) in
     ext-getD 0 (take m zeros) (replicate m 0) (long ∙ sym (length-replicate {A = ℕ} m 0))
     (λ k h. getD-take m zeros k 0 (omega (arith, h, long)) ∙ zeros-at w k ∙ sym (zeros-at m k))
+
+-- zeros in w places
+pub zeros-places : (w m : ℕ) → places w (replicate m 0) ≡ replicate w 0
+zeros-places w m =
+    ext-getD 0 (places w (replicate m 0)) (replicate w 0) (places-length w (replicate m 0) ∙ sym (length-replicate {A = ℕ} w 0))
+    (λ k h. places-at w (replicate m 0) k (omega (arith, h, places-length w (replicate m 0))) ∙ zeros-at m k ∙ sym (zeros-at w k))

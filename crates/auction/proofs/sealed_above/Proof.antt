@@ -4,7 +4,7 @@ use Rattle.bids.specs.Lent.{sheetAbove}
 use Rattle.bids.proofs.Limits.{fine, accepted-within}
 use Rattle.demands.proofs.Demanding.{demanded}
 use Rattle.auction.proofs.Settling.{ready}
-use Rattle.auction.proofs.Sealing.{sealed-refused, sealed-closed, above-promised, sealed-is}
+use Rattle.auction.proofs.Sealing.{above-refused, above-closed, above-promised, sealed-is}
 use borrow.Author.Needs.{needs}
 use Rattle.auction.proofs.sealed_above.Statement.{statement}
 use Rattle.auction.proofs.sealed_above.Tie as tie
@@ -18,7 +18,7 @@ refused-requires c κs = search needs
 returns : tie.Need-returns
 returns c =
     let a = c .before .before .before .before .before .before .args in
-    let e = c .refused .ensures ∙ sealed-refused (a .items) (a .bidders) (a .start .now) (a .floors .now) (a .bids .now) (c .before .before .refusal-above .result) (c .before .before .refusal-above .ensures) (c .before .if1 .taken) in
+    let e = c .refused .ensures ∙ above-refused (a .items) (a .bidders) (a .start .now) (a .floors .now) (a .bids .now) (c .before .before .refusal-above .result) (c .before .before .refusal-above .ensures) (c .before .if1 .taken) in
     (e, above-promised (a .items) (a .bidders) (a .start .now) (a .floors .now) (a .bids .now) _ e)
 
 rounds-requires : tie.Need-rounds-requires
@@ -51,7 +51,7 @@ returns-2 c =
     let above = c .before .above-floors in
     let e = sealed-is s g (a .bidders) (p .result .prices) (low .result) (at .result .sets) (at .result .nulls) (above .result) (p .ensures .2) (low .ensures) (above .ensures)
     (d .reported) (d .same) (p .result .raised) (p .result .lowered) (c .first .result) (p .ensures .0) (p .ensures .1) (c .first .ensures)
-    ∙ sealed-closed (a .items) (a .bidders) (a .start .now) (a .floors .now) (a .bids .now) z in
+    ∙ above-closed (a .items) (a .bidders) (a .start .now) (a .floors .now) (a .bids .now) z in
     (e, above-promised (a .items) (a .bidders) (a .start .now) (a .floors .now) (a .bids .now) _ e)
 
 pub sealed-above-spec : {M : Type 1} → statement M

@@ -4,9 +4,10 @@ use mathlib.Core.Path.{_≡_, refl, sym, ap, _∙_}
 use mathlib.Core.List.{List}
 use native.Mathlib.Omega.{arith}
 use lib.Dec.{leb}
-use lib.ListN.{length}
+use lib.ListN.{length, replicate}
 use lib.Seq.{sets}
 use Rattle.sets.specs.Lists.{places}
+use Rattle.sets.proofs.Filling.{zeros-places}
 use Rattle.rule.specs.Sheet.{Sheet}
 use Rattle.rule.specs.Round.{path}
 use Rattle.rule.specs.Reasons.{roundCount}
@@ -14,7 +15,7 @@ use Rattle.rule.proofs.Reasons.{count-most}
 use Rattle.lines.specs.Lines.{joined}
 use Rattle.bids.specs.Lent.{sheetAbove, sheetOf}
 use Rattle.bids.specs.Refusal.{sealedRefusal}
-use Rattle.bids.proofs.Limits.{fine, accepted-within}
+use Rattle.bids.proofs.Limits.{fine, accepted-within, without-floors}
 use Rattle.auction.proofs.Settling.{Ready, ready}
 use Rattle.reasons.specs.Sheets.{reasonSheet}
 use Rattle.reasons.proofs.Lines.{lineOf, lines-next}
@@ -25,7 +26,13 @@ use Rattle.reasons.proofs.put_rounds.Tie as tie
 
 -- a sheet that no number turns down has a closing
 closes : (m n : ℕ) (start bids : List ℕ) → sealedRefusal m n start bids ≡ 0 → Ready (sheetOf m n start bids)
-closes m n start bids e = ready (sheetOf m n start bids) (accepted-within m n start bids e .1)
+unfolding sheetOf
+closes m n start bids e = ready (sheetOf m n start bids) (accepted-within m n start (replicate m 0) bids (without-floors m n start bids ∙ e) .1)
+
+-- its floors, as the code holds them
+no-floors : (m n : ℕ) (start bids : List ℕ) → replicate 32 0 ≡ places 32 (sheetOf m n start bids .floors)
+unfolding sheetOf sheetAbove
+no-floors m n start bids = sym (zeros-places 32 m)
 
 few-rounds : (m n : ℕ) (start bids : List ℕ) → sealedRefusal m n start bids ≡ 0 → roundCount (sheetOf m n start bids) ≤ 8190
 few-rounds m n start bids e = count-most (sheetOf m n start bids) (closes m n start bids e .closing)
@@ -44,16 +51,16 @@ loop-holds : tie.Need-loop-holds Inv-loop μ-loop
 unfolding joined sheetOf sheetAbove
 loop-holds c =
     let a = c .before .before .before .before .args in
-    (at-start (sheetOf (a .items) (a .bidders) (a .start .now) (a .bids .now)) (closes (a .items) (a .bidders) (a .start .now) (a .bids .now) (c .before .before .before .before .pre .0)) (c .in-places .result) (c .in-places .ensures), refl, omega arith, refl)
+    (at-start (sheetOf (a .items) (a .bidders) (a .start .now) (a .bids .now)) (closes (a .items) (a .bidders) (a .start .now) (a .bids .now) (c .before .before .before .before .pre .0)) (replicate 32 0) (no-floors (a .items) (a .bidders) (a .start .now) (a .bids .now)) (c .in-places .result) (c .in-places .ensures), refl, omega arith, refl)
 
 reason-at-requires : tie.Need-reason-at-requires Inv-loop μ-loop
 unfolding sheetOf sheetAbove
 reason-at-requires c κs =
     let a = c .before .before .before .before .before .before .before .args in
     let pre = c .before .before .before .before .before .before .before .pre in
-    let f = fine (a .items) (a .bidders) (a .start .now) (a .bids .now) (pre .0) in
+    let f = fine (a .items) (a .bidders) (a .start .now) (replicate (a .items) 0) (a .bids .now) (without-floors (a .items) (a .bidders) (a .start .now) (a .bids .now) ∙ pre .0) in
     let lt : c .before .before .loop .k < roundCount (sheetOf (a .items) (a .bidders) (a .start .now) (a .bids .now)) = omega (arith, pre .2, c .before .loop-test .taken) in
-    (f .max-items, f .max-bidders, f .bids-long, past-items (sheetOf (a .items) (a .bidders) (a .start .now) (a .bids .now)) (closes (a .items) (a .bidders) (a .start .now) (a .bids .now) (pre .0)) (c .before .before .loop .k) lt (c .before .before .loop .p) (c .before .before .loop .inv .0))
+    (f .max-items, f .max-bidders, f .bids-long, past-items (sheetOf (a .items) (a .bidders) (a .start .now) (a .bids .now)) (closes (a .items) (a .bidders) (a .start .now) (a .bids .now) (pre .0)) (replicate 32 0) (no-floors (a .items) (a .bidders) (a .start .now) (a .bids .now)) (c .before .before .loop .k) lt (c .before .before .loop .p) (c .before .before .loop .inv .0))
 
 mul-put-line : tie.Need-mul-put-line Inv-loop μ-loop
 mul-put-line c = let a = c .before .before .before .before .before .before .before .before .before .args in omega (arith, few-rounds (a .items) (a .bidders) (a .start .now) (a .bids .now) (c .before .before .before .before .before .before .before .before .before .pre .0), c .before .before .before .before .before .before .before .before .before .pre .2, c .before .before .before .loop-test .taken)
@@ -86,11 +93,12 @@ loop-again c =
     let put = c .before .before .before .before .put-line in
     let s : Sheet = sheetOf (a .items) (a .bidders) (a .start .now) (a .bids .now) in
     let g = closes (a .items) (a .bidders) (a .start .now) (a .bids .now) (pre .0) in
+    let floored = no-floors (a .items) (a .bidders) (a .start .now) (a .bids .now) in
     let lt : here .k < roundCount s = omega (arith, pre .2, c .before .before .before .before .before .before .before .before .loop-test .taken) in
     let turned = ap (λ (u : ℕ). leb u (here .k)) (pre .1) in (
-      next-is s g (here .k) lt (here .p) (here .inv .0) (leb (a .raised) (here .k)) turned (r .result) (r .ensures) (c .moved .result) (c .moved .ensures),
+      next-is s g (replicate 32 0) floored (here .k) lt (here .p) (here .inv .0) (leb (a .raised) (here .k)) turned (r .result) (r .ensures) (c .moved .result) (c .moved .ensures),
       lines-next s (a .out .now) (here .out) (put .last .0) (here .k) (here .inv .1)
-          (put .ensures ∙ ap (λ (vs : List ℕ). sets (here .out) (31 * here .k) vs) (line-is s g (here .k) lt (here .p) (here .inv .0) (leb (a .raised) (here .k)) turned (r .result) (r .ensures))),
+          (put .ensures ∙ ap (λ (vs : List ℕ). sets (here .out) (31 * here .k) vs) (line-is s g (replicate 32 0) floored (here .k) lt (here .p) (here .inv .0) (leb (a .raised) (here .k)) turned (r .result) (r .ensures))),
       omega (arith, c .before .before .before .before .before .before .before .before .loop-test .taken),
       put .kept .0 ∙ here .inv .3,
     )
