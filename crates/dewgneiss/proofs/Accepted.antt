@@ -1,34 +1,40 @@
--- What holds of the lent lists where no number applies. Assumes nothing.
-use Prim.Native.Nat.{ℕ, _*_, _≤_}
-use mathlib.Core.Path.{_≡_}
-use mathlib.Core.Bool.{_||_}
+-- What holds of the auction's own number and of the lent lists where no number applies. Assumes nothing.
+use Prim.Native.Nat.{ℕ}
+use mathlib.Core.Path.{_≡_, refl, sym, ap, _∙_}
+use mathlib.Core.Bool.{Bool, true, false, _||_, cond}
 use mathlib.Core.List.{List}
+use native.Mathlib.Omega.{arith}
+use lib.Dec.{eqb}
 use lib.ListN.{length}
-use Rattle.sets.proofs.Counting.{or-left-false, or-right-false}
-use Rattle.rule.specs.Refusal.{badItems, badBidders, badLength}
-use Rattle.rule.proofs.Refusal.{none, in-range, exact-is}
-use Rattle.dewgneiss.specs.Lent.{unfit, lentRefusal}
+use Rattle.sets.proofs.Counting.{not-both, or-left-false, or-right-false}
+use Rattle.rule.specs.Refusal.{badLength}
+use Rattle.rule.proofs.Refusal.{exact-is}
+use Rattle.dewgneiss.specs.Lent.{unfit, withLengths}
+
+-- the auction gives no number, and the lists fit
+pub no-number : (why : ℕ) (u : Bool) → withLengths why u ≡ 0 → (why ≡ 0) × (u ≡ false)
+unfolding withLengths
+no-number why false e = (sym (same (eqb why 1 || eqb why 2)) ∙ e, refl)
+  where
+    same : (b : Bool) → cond b why why ≡ why
+    same true = refl
+    same false = refl
+no-number why true e = absurd (go (eqb why 1 || eqb why 2) refl e)
+  where
+    go : (b : Bool) → eqb why 1 || eqb why 2 ≡ b → cond b why 3 ≡ 0 → ⊥
+    go true q z = not-both true refl (sym q ∙ ap (λ (x : ℕ). eqb x 1 || eqb x 2) z)
+    go false q z = omega arith
 
 pub record Accepted (m n : ℕ) (rounds prices options : List ℕ) : Type 0 where
-  pub items : m ≤ 32
-  pub bidders : n ≤ 64
   pub two : length rounds ≡ 2
   pub as-items : length prices ≡ m
   pub as-bidders : length options ≡ n
 
-pub accepted : (m n : ℕ) (start bids rounds prices options : List ℕ)
-    → lentRefusal m n start bids rounds prices options ≡ 0 → Accepted m n rounds prices options
-unfolding lentRefusal unfit badItems badBidders
-accepted m n start bids rounds prices options e =
-    let f = none 0 (badItems m) _ e in
-    let g = none 1 (badBidders n) _ (f .1) in
-    let h = none 2 (badLength start m) _ (g .1) in
-    let k = none 2 (badLength bids (n * m)) _ (h .1) in
-    let u = none 2 (unfit m n rounds prices options) _ (k .1) .0 in
+pub accepted : (m n : ℕ) (rounds prices options : List ℕ) → unfit m n rounds prices options ≡ false → Accepted m n rounds prices options
+unfolding unfit
+accepted m n rounds prices options u =
     let v = or-left-false (badLength rounds 2 || badLength prices m) (badLength options n) u in
     record {
-      items = in-range 32 m (f .0) .1;
-      bidders = in-range 64 n (g .0) .1;
       two = exact-is rounds 2 (or-left-false (badLength rounds 2) (badLength prices m) v);
       as-items = exact-is prices m (or-right-false (badLength rounds 2) (badLength prices m) v);
       as-bidders = exact-is options n (or-right-false (badLength rounds 2 || badLength prices m) (badLength options n) u);

@@ -22,3 +22,25 @@ in-order false false false false false true true = refl
 in-order false false false false false true false = refl
 in-order false false false false false false true = refl
 in-order false false false false false false false = refl
+
+-- and with floors: 1, 2, 3, 3, 3, 4, 18, 5
+pub in-order-above : (a b c d e f g h u : Bool)
+    → withLengths (first (on 1 a ∷ on 2 b ∷ on 3 c ∷ on 3 d ∷ on 3 e ∷ on 4 f ∷ on 18 g ∷ on 5 h ∷ [])) u
+    ≡ first (on 1 a ∷ on 2 b ∷ on 3 c ∷ on 3 d ∷ on 3 e ∷ on 3 u ∷ on 4 f ∷ on 18 g ∷ on 5 h ∷ [])
+unfolding first withLengths
+in-order-above true b c d e f g h u = refl
+in-order-above false true c d e f g h u = refl
+in-order-above false false true d e f g h true = refl
+in-order-above false false true d e f g h false = refl
+in-order-above false false false true e f g h true = refl
+in-order-above false false false true e f g h false = refl
+in-order-above false false false false true f g h true = refl
+in-order-above false false false false true f g h false = refl
+in-order-above false false false false false true g h true = refl
+in-order-above false false false false false true g h false = refl
+in-order-above false false false false false false true h true = refl
+in-order-above false false false false false false true h false = refl
+in-order-above false false false false false false false true true = refl
+in-order-above false false false false false false false true false = refl
+in-order-above false false false false false false false false true = refl
+in-order-above false false false false false false false false false = refl

@@ -3,7 +3,7 @@ use Prim.Native.Nat.{ℕ, _*_}
 use mathlib.Core.Bool.{Bool, _||_, cond}
 use mathlib.Core.List.{List, [], _∷_}
 use lib.Dec.{eqb}
-use Rattle.rule.specs.Refusal.{on, first, badItems, badBidders, badLength, anyOver}
+use Rattle.rule.specs.Refusal.{on, first, badItems, badBidders, badLength, anyOver, badFloors}
 
 -- the lists lent for the results are not exact: two rounds, a price for each item, an option for each bidder
 unfoldable pub unfit : (m n : ℕ) (rounds prices options : List ℕ) → Bool
@@ -19,6 +19,21 @@ lentRefusal m n start bids rounds prices options =
     ∷ on 3 (badLength bids (n * m))
     ∷ on 3 (unfit m n rounds prices options)
     ∷ on 4 (anyOver start)
+    ∷ on 5 (anyOver bids)
+    ∷ [])
+
+-- and with floors: 18 directly after 4
+unfoldable pub lentAboveRefusal : (m n : ℕ) (start floors bids rounds prices options : List ℕ) → ℕ
+lentAboveRefusal m n start floors bids rounds prices options =
+    first
+    (on 1 (badItems m)
+    ∷ on 2 (badBidders n)
+    ∷ on 3 (badLength start m)
+    ∷ on 3 (badLength floors m)
+    ∷ on 3 (badLength bids (n * m))
+    ∷ on 3 (unfit m n rounds prices options)
+    ∷ on 4 (anyOver start)
+    ∷ on 18 (badFloors start floors)
     ∷ on 5 (anyOver bids)
     ∷ [])
 

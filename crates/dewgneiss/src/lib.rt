@@ -4,11 +4,11 @@ ghost use mathlib.Core.List.{[], _∷_};
 ghost use Prim.Native.Nat.{_≤_};
 ghost use lib.ListN.{length};
 ghost use Rattle.sets.specs.Lists.{places};
-ghost use Rattle.auction.specs.Sealed.{sealedOf};
+ghost use Rattle.auction.specs.Sealed.{sealedOf, sealedAboveOf};
 ghost use Rattle.lines.specs.Lines.{writtenTo};
 ghost use Rattle.sheet.specs.Close.{sheetRefusal, closedTo, byNumber};
 ghost use Rattle.reasons.specs.Sheets.{answerOf};
-ghost use Rattle.dewgneiss.specs.Lent.{unfit, lentRefusal, withLengths};
+ghost use Rattle.dewgneiss.specs.Lent.{unfit, lentRefusal, lentAboveRefusal, withLengths};
 
 // Copies the first prices, as many as there are places.
 fn put_prices(out: &mut [u16], prices: &[u16; 32])
@@ -91,6 +91,29 @@ fn put_closing(c: auction::Closing, rounds: &mut [u32], prices: &mut [u16], opti
     put_options(options, &names);
 }
 
+// Lends an outcome back: answers 0 and leaves it in lists that fit it, or answers the number that turns the call down, and leaves them as they came.
+fn lend(
+    c: auction::Closing,
+    items: usize,
+    bidders: usize,
+    rounds: &mut [u32],
+    prices: &mut [u16],
+    options: &mut [u8],
+) -> u8
+    requires { ⌜ (c .refusal ≡ 0 → (items ≤ 32) × (bidders ≤ 64)) ⌝ }
+    ensures number { λ r. ⌜ r ≡ withLengths (c .refusal) (unfit items bidders (now (rounds .entry)) (now (prices .entry)) (now (options .entry))) ⌝ }
+    ensures rounds { λ r. ⌜ now (rounds .exit) ≡ byNumber r (c .raised ∷ c .lowered ∷ []) (now (rounds .entry)) ⌝ }
+    ensures prices { λ r. ⌜ now (prices .exit) ≡ byNumber r (places items (c .prices)) (now (prices .entry)) ⌝ }
+    ensures options { λ r. ⌜ now (options .exit) ≡ byNumber r (places bidders (c .assignment)) (now (options .entry)) ⌝ }
+{
+    let why = with_lengths(c.refusal, unfit(items, bidders, rounds, prices, options));
+    if why != 0 {
+        return why;
+    }
+    put_closing(c, rounds, prices, options);
+    0
+}
+
 // The sealed auction: starting prices, one for each item, and bids, bidder after bidder. Answers 0 and leaves rounds raised and lowered, the
 // closing prices and each bidder's item, or 0 for null, in the lent lists; or answers the number that turns the call down, and leaves them as
 // they came.
@@ -114,12 +137,32 @@ pub extern "C" fn dewgneiss_sealed(
     let m = items as usize;
     let n = bidders as usize;
     let c = auction::sealed(m, n, start, bids);
-    let why = with_lengths(c.refusal, unfit(m, n, rounds, prices, options));
-    if why != 0 {
-        return why;
-    }
-    put_closing(c, rounds, prices, options);
-    0
+    lend(c, m, n, rounds, prices, options)
+}
+
+// The sealed auction with floors, one for each item. Answers and leaves as above.
+#[no_mangle]
+pub extern "C" fn dewgneiss_sealed_above(
+    items: u32,
+    bidders: u32,
+    start: &[u16],
+    floors: &[u16],
+    bids: &[u16],
+    rounds: &mut [u32],
+    prices: &mut [u16],
+    options: &mut [u8],
+) -> u8
+    ensures number { λ r. ⌜ r ≡ lentAboveRefusal items bidders (now (start .entry)) (now (floors .entry)) (now (bids .entry)) (now (rounds .entry)) (now (prices .entry)) (now (options .entry)) ⌝ }
+    ensures rounds { λ r. ⌜ now (rounds .exit) ≡ byNumber r
+        (sealedAboveOf items bidders (now (start .entry)) (now (floors .entry)) (now (bids .entry)) .raised ∷ sealedAboveOf items bidders (now (start .entry)) (now (floors .entry)) (now (bids .entry)) .lowered ∷ [])
+        (now (rounds .entry)) ⌝ }
+    ensures prices { λ r. ⌜ now (prices .exit) ≡ byNumber r (places items (sealedAboveOf items bidders (now (start .entry)) (now (floors .entry)) (now (bids .entry)) .prices)) (now (prices .entry)) ⌝ }
+    ensures options { λ r. ⌜ now (options .exit) ≡ byNumber r (places bidders (sealedAboveOf items bidders (now (start .entry)) (now (floors .entry)) (now (bids .entry)) .assignment)) (now (options .entry)) ⌝ }
+{
+    let m = items as usize;
+    let n = bidders as usize;
+    let c = auction::sealed_above(m, n, start, floors, bids);
+    lend(c, m, n, rounds, prices, options)
 }
 
 // Closes a bid sheet: writes the closing sheet to the front of `out` and answers 0, or answers the number that turns the sheet down and leaves
