@@ -1,17 +1,18 @@
 -- The first number in order: a condition that fails is passed over, and one that holds gives its number. And what it says that a condition holds or fails:
 -- a count outside 1 to the top, a length that is not exact, an amount above 4,095, a price below its floor. Assumes nothing.
 use Prim.Native.Nat.{ℕ, suc, _≤_, _<_}
-use mathlib.Core.Path.{_≡_, refl, ap}
+use mathlib.Core.Path.{_≡_, refl, ap, ap₂}
 use mathlib.Core.Bool.{Bool, true, false, _||_, not}
 use mathlib.Core.List.{List, [], _∷_}
 use mathlib.Core.Logic.{_⊎_, inl, inr}
 use native.Mathlib.Omega.{arith}
 use lib.Dec.{ltb, eqb}
-use lib.ListN.{length, getD, List·getD-eq-default}
+use lib.ListN.{length, getD, replicate, List·getD-eq-default}
 use borrow.Author.Tests.{ltb-true, ltb-false, lt-ltb, le-ltb, eqb-true, eq-eqb, ne-eqb, not-false}
 use Rattle.sets.specs.Count.{anyBelow}
 use Rattle.sets.specs.Bit.{outside}
 use Rattle.sets.proofs.Counting.{lt-or-le, or-left-false, or-right-false, any-use, any-make, is-false, not-both}
+use Rattle.sets.proofs.Filling.{zeros-at}
 use Rattle.rule.specs.Refusal.{Refusal, on, first, badLength, anyOver, anyUnder, badFloors}
 
 pub passed : (n : ℕ) (a : Bool) (rest : List Refusal) → a ≡ false → first (on n a ∷ rest) ≡ first rest
@@ -125,3 +126,8 @@ pub floors-fit : (start floors : List ℕ) → badFloors start floors ≡ false 
 unfolding badFloors
 floors-fit start floors e =
     (none-under start floors (or-left-false (anyUnder start floors) (anyOver floors) e), none-over floors (or-right-false (anyUnder start floors) (anyOver floors) e))
+
+-- floors of 0 turn nothing down
+pub floors-none : (start : List ℕ) (m : ℕ) → badFloors start (replicate m 0) ≡ false
+unfolding badFloors
+floors-none start m = ap₂ _||_ (under-not start (replicate m 0) (λ k l. omega (arith, zeros-at m k))) (over-not (replicate m 0) (λ k l. omega (arith, zeros-at m k)))
