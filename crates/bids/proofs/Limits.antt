@@ -13,7 +13,7 @@ use Rattle.sets.proofs.Counting.{all-make, and-both}
 use Rattle.rule.specs.Sheet.{amount, row, each4095, withinLimits}
 use Rattle.rule.specs.Refusal.{on, first, badItems, badBidders, badLength, anyOver, badFloors}
 use Rattle.rule.proofs.Limits.{Limits, limits}
-use Rattle.rule.proofs.Refusal.{passed, none, first-nil, in-range, range-in, exact, exact-is, none-over, over-not, floors-in, floors-fit, zeros-in}
+use Rattle.rule.proofs.Refusal.{passed, none, first-nil, in-range, range-in, exact, exact-is, none-over, over-not, floors-in, floors-fit, floors-none}
 use Rattle.bids.specs.Lent.{lineOf, rowsOf, sheetAbove}
 use Rattle.bids.specs.Refusal.{sealedAboveRefusal, sealedRefusal}
 use Rattle.bids.proofs.Lent.{rows-length, row-at, line-inside, line-length, line-at}
@@ -162,4 +162,4 @@ without-floors m n start bids =
     ap₂
     (λ (x y : Bool). first
     (on 1 (badItems m) ∷ on 2 (badBidders n) ∷ on 3 (badLength start m) ∷ on 3 x ∷ on 3 (badLength bids (n * m)) ∷ on 4 (anyOver start) ∷ on 18 y ∷ on 5 (anyOver bids) ∷ []))
-    (exact (replicate m 0) m (length-replicate {A = ℕ} m 0)) (zeros-in start m)
+    (exact (replicate m 0) m (length-replicate {A = ℕ} m 0)) (floors-none start m)

@@ -1,10 +1,12 @@
--- Number 11 applied, clause by clause, by computation from the definitions alone. Each case is two records that differ in one number: the first, at the limit of
--- the clause, is well formed, and the second is not. So a clause that is dropped or made weaker makes a case false, and so does one that is made stronger. One
--- thing has no case of its own: a bit of an item set past the items is always also in a report that 8 refuses, in one that is not empty, or in an unused place.
+-- Number 11 applied, clause by clause, and then openings with floors, by computation from the definitions alone. Each case of 11 is two records that differ in one
+-- number: the first, at the limit of the clause, is well formed, and the second is not. So a clause that is dropped or made weaker makes a case false, and so does
+-- one that is made stronger. Three clauses never turn a record down alone, and two of them have cases by themselves: a floor above 4,095 and an unused floor that is
+-- not zero are always also above their price, or the price breaks its own clause. The third has none: a bit of an item set past the items is always also in a
+-- report that 8 refuses, in one that is not empty, or in an unused place.
 -- The checker takes modules by name, and this one comes first: the first error that a wrong definition meets stands here. Assumes nothing.
 use Prim.Native.Nat.{ℕ}
 use mathlib.Core.Path.{_≡_, refl}
-use mathlib.Core.Bool.{true, false}
+use mathlib.Core.Bool.{Bool, true, false}
 use mathlib.Core.List.{List, [], _∷_}
 use lib.ListN.{replicate, set}
 use Rattle.sets.specs.Count.{allBelow, anyBelow, count}
@@ -15,17 +17,19 @@ use Rattle.sets.specs.Sum.{sum}
 use Rattle.rule.specs.Sheet.{amount, priceSum}
 use Rattle.rule.specs.Demand.{wants, nth}
 use Rattle.rule.specs.Excess.{bidders, crowded, inExcess, inPositiveExcess, excessDemand, positiveExcessDemand, excessSupply, aboveFloors}
-use Rattle.rule.specs.Refusal.{badItems, badBidders, anyOver}
+use Rattle.rule.specs.Refusal.{first, badItems, badBidders, badLength, anyOver, anyUnder, badFloors}
 use Rattle.round.specs.Reports.{reports}
 use Rattle.reports.specs.Report.{isEmpty, beyond, unfit}
-use Rattle.live.specs.Auction.{place, hasReported, missing, reportsOf, aboveZero, risingSet, fallingSet, countsFit, pricesFit, unusedPrices, unusedPlaces, unusedBits, reportedFit, othersEmpty, roundsFit, closeFits, wellFormed}
+use Rattle.live.specs.Auction.{place, hasReported, missing, reportsOf, itemsAbove, risingSet, fallingSet, countsFit, pricesFit, unusedPrices, floorsFit, fromFloors, unusedFloors, unusedPlaces, unusedBits, reportedFit, othersEmpty, roundsFit, closeFits, wellFormed}
+use Rattle.live.specs.Calls.{openAboveNumber, zeros, opened, unopened, openAbove}
 use Rattle.live.specs.declared.Auction.{Auction}
 use Rattle.live.specs.declared.Phase.{Phase}
 use Rattle.live.specs.declared.Phase.the-variants.{Rising, Falling, Closed}
+use Rattle.live.specs.declared.Reply.{Reply}
 
 -- the definitions that the cases compute with
 computing : Unit {0}
-unfolding amount wants nth bidders crowded inExcess inPositiveExcess excessDemand positiveExcessDemand excessSupply aboveFloors allBelow anyBelow count bit isSet has setOf each any size largestBelow largest sum priceSum badItems badBidders anyOver tabulate places reports place hasReported missing isEmpty beyond unfit reportsOf aboveZero risingSet fallingSet countsFit pricesFit unusedPrices unusedPlaces unusedBits reportedFit othersEmpty roundsFit closeFits wellFormed
+unfolding amount wants nth bidders crowded inExcess inPositiveExcess excessDemand positiveExcessDemand excessSupply aboveFloors allBelow anyBelow count bit isSet has setOf each any size largestBelow largest sum priceSum first badItems badBidders badLength anyOver anyUnder badFloors tabulate places reports place hasReported missing isEmpty beyond unfit reportsOf itemsAbove risingSet fallingSet countsFit pricesFit unusedPrices floorsFit fromFloors unusedFloors unusedPlaces unusedBits reportedFit othersEmpty roundsFit closeFits wellFormed openAboveNumber zeros opened unopened openAbove
 computing = tt
 
 -- number 11 lets the first record pass, and turns the second down
@@ -33,15 +37,21 @@ pub record Tells (sound damaged : Auction) : Type 0 where
   pub passes : wellFormed sound ≡ true
   pub refuses : wellFormed damaged ≡ false
 
--- ---- the records: two items at 5 and 0 and three bidders, unless a case says otherwise
+-- one clause of it does
+pub record TellsBy (clause : Auction → Bool) (sound damaged : Auction) : Type 0 where
+  pub passes : clause sound ≡ true
+  pub refuses : clause damaged ≡ false
 
--- items, bidders, prices, the reports' item sets, who says null, who has reported, phase, rounds raised and lowered
-abbrev pub holds : ℕ → ℕ → List ℕ → List ℕ → ℕ → ℕ → Phase → ℕ → ℕ → Auction
-holds m n p sets nulls reported ph ups downs =
+-- ---- the records: two items at 5 and 0, floors of 0 and three bidders, unless a case says otherwise
+
+-- items, bidders, prices, floors, the reports' item sets, who says null, who has reported, phase, rounds raised and lowered
+abbrev pub holds : ℕ → ℕ → List ℕ → List ℕ → List ℕ → ℕ → ℕ → Phase → ℕ → ℕ → Auction
+holds m n p floors sets nulls reported ph ups downs =
     record {
       items = m;
       bidders = n;
       prices = places 32 p;
+      floors = places 32 floors;
       sets = places 64 sets;
       nulls = nulls;
       reported = reported;
@@ -52,23 +62,31 @@ holds m n p sets nulls reported ph ups downs =
 
 -- in the first round, with so many items and bidders
 abbrev pub counting : ℕ → ℕ → Auction
-counting m n = holds m n [] [] 0 0 Rising 0 0
+counting m n = holds m n [] [] [] 0 0 Rising 0 0
 
 -- with these prices
 abbrev pub priced : List ℕ → Auction
-priced p = holds 2 3 p [] 0 0 Rising 0 0
+priced p = holds 2 3 p [] [] 0 0 Rising 0 0
+
+-- with these prices and floors
+abbrev pub floored : List ℕ → List ℕ → Auction
+floored p floors = holds 2 3 p floors [] 0 0 Rising 0 0
 
 -- with these reports
 abbrev pub saying : List ℕ → ℕ → ℕ → Auction
-saying sets nulls reported = holds 2 3 (5 ∷ []) sets nulls reported Rising 0 0
+saying sets nulls reported = holds 2 3 (5 ∷ []) [] sets nulls reported Rising 0 0
 
 -- with these rounds
 abbrev pub rounds : Phase → ℕ → ℕ → Auction
-rounds ph ups downs = holds 2 3 (5 ∷ []) [] 0 0 ph ups downs
+rounds ph ups downs = holds 2 3 (5 ∷ []) [] [] 0 0 ph ups downs
+
+-- rising, at 5 and 1 over these floors, with so many rounds raised
+abbrev pub raised-over : List ℕ → ℕ → Auction
+raised-over floors ups = holds 2 3 (5 ∷ 1 ∷ []) floors [] 0 0 Rising ups 0
 
 -- closed, one item at this price and two bidders with these reports, after these rounds
 abbrev pub closing : List ℕ → List ℕ → ℕ → ℕ → ℕ → ℕ → Auction
-closing p sets nulls reported ups downs = holds 1 2 p sets nulls reported Closed ups downs
+closing p sets nulls reported ups downs = holds 1 2 p [] sets nulls reported Closed ups downs
 
 -- ---- a count is outside 1 or 2
 
@@ -94,15 +112,49 @@ pub price-above : Tells (priced (0 ∷ 4095 ∷ [])) (priced (0 ∷ 4096 ∷ [])
 unfolding computing
 price-above = record { passes = refl; refuses = refl }
 
--- ---- an unused place or bit is not zero: the first and the last of the unused prices, of the unused places, of those who say null and of those who reported
+-- ---- a floor exceeds 4,095
+
+pub floor-above : Tells (floored (0 ∷ 4095 ∷ []) (0 ∷ 4095 ∷ [])) (floored (0 ∷ 4095 ∷ []) (0 ∷ 4096 ∷ []))
+unfolding computing
+floor-above = record { passes = refl; refuses = refl }
+
+pub floor-limit : TellsBy floorsFit (floored (0 ∷ 4095 ∷ []) (0 ∷ 4095 ∷ [])) (floored (0 ∷ 4095 ∷ []) (0 ∷ 4096 ∷ []))
+unfolding computing
+floor-limit = record { passes = refl; refuses = refl }
+
+-- ---- a price is below its floor: each item's price is held against its own
+
+pub below-floor : Tells (floored (5 ∷ 3 ∷ []) (1 ∷ 3 ∷ [])) (floored (5 ∷ 2 ∷ []) (1 ∷ 3 ∷ []))
+unfolding computing
+below-floor = record { passes = refl; refuses = refl }
+
+-- item 32 stands at 1 over a floor of 1, or at 0 below it
+pub below-last-floor : Tells (holds 32 3 (replicate 32 1) (set (replicate 32 0) 31 1) [] 0 0 Rising 0 0) (holds 32 3 (replicate 31 1) (set (replicate 32 0) 31 1) [] 0 0 Rising 0 0)
+unfolding computing
+below-last-floor = record { passes = refl; refuses = refl }
+
+-- ---- an unused place or bit is not zero: the first and the last of the unused prices and floors, of the unused places, of those who say null and of those who
+-- reported
 
 pub price-past : Tells (priced (5 ∷ 1 ∷ [])) (priced (5 ∷ 1 ∷ 1 ∷ []))
 unfolding computing
 price-past = record { passes = refl; refuses = refl }
 
-pub price-last : Tells (holds 32 3 (replicate 32 1) [] 0 0 Rising 0 0) (holds 31 3 (replicate 32 1) [] 0 0 Rising 0 0)
+pub price-last : Tells (holds 32 3 (replicate 32 1) [] [] 0 0 Rising 0 0) (holds 31 3 (replicate 32 1) [] [] 0 0 Rising 0 0)
 unfolding computing
 price-last = record { passes = refl; refuses = refl }
+
+pub floor-past : Tells (floored (5 ∷ 1 ∷ []) (5 ∷ 1 ∷ [])) (floored (5 ∷ 1 ∷ []) (5 ∷ 1 ∷ 1 ∷ []))
+unfolding computing
+floor-past = record { passes = refl; refuses = refl }
+
+pub floor-first : TellsBy unusedFloors (floored (5 ∷ 1 ∷ []) (5 ∷ 1 ∷ [])) (floored (5 ∷ 1 ∷ []) (5 ∷ 1 ∷ 1 ∷ []))
+unfolding computing
+floor-first = record { passes = refl; refuses = refl }
+
+pub floor-last : TellsBy unusedFloors (holds 32 3 [] (replicate 32 1) [] 0 0 Rising 0 0) (holds 31 3 [] (replicate 32 1) [] 0 0 Rising 0 0)
+unfolding computing
+floor-last = record { passes = refl; refuses = refl }
 
 pub set-past : Tells (saying (0 ∷ 0 ∷ 2 ∷ []) 0 4) (saying (0 ∷ 0 ∷ 2 ∷ 2 ∷ []) 0 4)
 unfolding computing
@@ -117,7 +169,7 @@ unfolding computing
 reported-past = record { passes = refl; refuses = refl }
 
 -- bidder 64's report of item 32 beside null: place 64 and its bits are used by 64 bidders, and unused by 63
-pub last-places : Tells (holds 32 64 [] (set (replicate 64 0) 63 2147483648) 9223372036854775808 9223372036854775808 Rising 0 0) (holds 32 63 [] (set (replicate 64 0) 63 2147483648) 9223372036854775808 9223372036854775808 Rising 0 0)
+pub last-places : Tells (holds 32 64 [] [] (set (replicate 64 0) 63 2147483648) 9223372036854775808 9223372036854775808 Rising 0 0) (holds 32 63 [] [] (set (replicate 64 0) 63 2147483648) 9223372036854775808 9223372036854775808 Rising 0 0)
 unfolding computing
 last-places = record { passes = refl; refuses = refl }
 
@@ -141,7 +193,7 @@ pub unreported-null : Tells (saying [] 1 1) (saying [] 1 0)
 unfolding computing
 unreported-null = record { passes = refl; refuses = refl }
 
--- ---- while rising, any round was lowered, or the rounds raised exceed the sum of prices
+-- ---- while rising, any round was lowered, or the rounds raised exceed the sum of prices less floors
 
 pub rising-lowered : Tells (rounds Rising 0 0) (rounds Rising 0 1)
 unfolding computing
@@ -150,6 +202,20 @@ rising-lowered = record { passes = refl; refuses = refl }
 pub rising-raised : Tells (rounds Rising 5 0) (rounds Rising 6 0)
 unfolding computing
 rising-raised = record { passes = refl; refuses = refl }
+
+pub rising-floors : Tells (raised-over (2 ∷ 1 ∷ []) 3) (raised-over (2 ∷ 1 ∷ []) 4)
+unfolding computing
+rising-floors = record { passes = refl; refuses = refl }
+
+-- on the floors no round was raised
+pub rising-on-floors : Tells (raised-over (5 ∷ 1 ∷ []) 0) (raised-over (5 ∷ 1 ∷ []) 1)
+unfolding computing
+rising-on-floors = record { passes = refl; refuses = refl }
+
+-- the largest count that the record can hold: with the sum of floors it is more than 32 bits hold
+pub rising-most : Tells (raised-over (2 ∷ 1 ∷ []) 3) (raised-over (2 ∷ 1 ∷ []) 4294967295)
+unfolding computing
+rising-most = record { passes = refl; refuses = refl }
 
 -- ---- while falling or closed, rounds raised, or the sum of prices plus rounds lowered, exceed 4,095 × items
 
@@ -178,7 +244,7 @@ closed-lowered = record { passes = refl; refuses = refl }
 -- ---- if closed, a report is missing or a set is not empty
 
 -- bidder 2 has not reported; while falling that is no fault
-pub closed-missing : Tells (holds 1 2 [] (1 ∷ []) 0 1 Falling 0 0) (holds 1 2 [] (1 ∷ []) 0 1 Closed 0 0)
+pub closed-missing : Tells (holds 1 2 [] [] (1 ∷ []) 0 1 Falling 0 0) (holds 1 2 [] [] (1 ∷ []) 0 1 Closed 0 0)
 unfolding computing
 closed-missing = record { passes = refl; refuses = refl }
 
@@ -191,3 +257,55 @@ closed-rising = record { passes = refl; refuses = refl }
 pub closed-falling : Tells (closing [] [] 3 3 0 0) (closing (1 ∷ []) [] 3 3 0 0)
 unfolding computing
 closed-falling = record { passes = refl; refuses = refl }
+
+-- at 1 over a floor of 1 it does not fall either, and over a floor of 0 it would
+pub closed-on-floor : Tells (holds 1 2 (1 ∷ []) (1 ∷ []) [] 3 3 Closed 0 0) (holds 1 2 (1 ∷ []) [] [] 3 3 Closed 0 0)
+unfolding computing
+closed-on-floor = record { passes = refl; refuses = refl }
+
+-- ---- openings with floors: 1, 2, 3 (starting prices, then floors), 4, 18
+
+-- two items and a bidder with these starting prices and floors
+abbrev pub opening : List ℕ → List ℕ → ℕ
+opening start floors = openAboveNumber 2 1 start floors
+
+-- a starting price on its floor, and one below it; a floor above 4,095
+pub on-floor : opening (5 ∷ 4 ∷ []) (3 ∷ 4 ∷ []) ≡ 0
+unfolding computing
+on-floor = refl
+
+pub start-below-floor : opening (5 ∷ 3 ∷ []) (3 ∷ 4 ∷ []) ≡ 18
+unfolding computing
+start-below-floor = refl
+
+pub highest-floor : opening (5 ∷ 4095 ∷ []) (3 ∷ 4095 ∷ []) ≡ 0
+unfolding computing
+highest-floor = refl
+
+pub floor-too-high : opening (5 ∷ 4095 ∷ []) (3 ∷ 4096 ∷ []) ≡ 18
+unfolding computing
+floor-too-high = refl
+
+-- 4 comes before 18
+pub four-first : opening (5 ∷ 4096 ∷ []) (3 ∷ 4097 ∷ []) ≡ 4
+unfolding computing
+four-first = refl
+
+-- a floor is missing, or there is one too many: 3, and 3 comes before 4 and 18
+pub floors-short : opening (5 ∷ 4096 ∷ []) (6 ∷ []) ≡ 3
+unfolding computing
+floors-short = refl
+
+pub floors-long : opening (5 ∷ 4096 ∷ []) (6 ∷ 0 ∷ 0 ∷ []) ≡ 3
+unfolding computing
+floors-long = refl
+
+-- the record holds the starting prices and the floors
+pub opens-above : openAbove 2 1 (5 ∷ 4 ∷ []) (3 ∷ 4 ∷ []) ≡ record { number = 0; next = holds 2 1 (5 ∷ 4 ∷ []) (3 ∷ 4 ∷ []) [] 0 0 Rising 0 0 }
+unfolding computing
+opens-above = refl
+
+-- beside a number the record is of zeros
+pub opens-not : openAbove 2 1 (5 ∷ 3 ∷ []) (3 ∷ 4 ∷ []) ≡ record { number = 18; next = holds 0 0 [] [] [] 0 0 Rising 0 0 }
+unfolding computing
+opens-not = refl

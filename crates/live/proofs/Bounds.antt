@@ -35,9 +35,9 @@ module _ (r : Auction) where
   unfolding roundsFit
   few-at Rising e f =
       let a = eqb (r .lowered) 0 in
-      let b = leb (r .raised) (priceSum (r .items) (r .prices)) in
+      let b = leb (r .raised + priceSum (r .items) (r .floors)) (priceSum (r .items) (r .prices)) in
       let z = eqb-true (r .lowered) 0 (and-left a b e) in
-      let l = leb-true (r .raised) (priceSum (r .items) (r .prices)) (and-right a b e) in
+      let l = leb-true (r .raised + priceSum (r .items) (r .floors)) (priceSum (r .items) (r .prices)) (and-right a b e) in
       record { raised = omega (arith, l, sum-low f); lowered = omega arith }
   few-at Falling e f = few-within e
   few-at Closed e f = few-within e

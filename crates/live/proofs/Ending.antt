@@ -12,7 +12,7 @@ use Rattle.rule.specs.Sheet.{amount}
 use Rattle.rule.specs.Round.{Round, raised, lowered, closed, round, roundFalling}
 use Rattle.rule.specs.Refusal.{on, first}
 use Rattle.rule.proofs.Refusal.{passed, given}
-use Rattle.live.specs.Auction.{missing, aboveZero, reportsOf, risingSet, fallingSet}
+use Rattle.live.specs.Auction.{missing, itemsAbove, reportsOf, risingSet, fallingSet}
 use Rattle.live.specs.Calls.{isFalling, isRising, clearNumber, atTop, endNumber, ruled, roundBy, settled, gives, refused, endingOf, endAnswer, endNext}
 use Rattle.live.specs.Tidy.{Ready}
 use Rattle.live.specs.declared.Auction.{Auction}
@@ -87,17 +87,17 @@ module _ (r : Auction) where
   round-raised set e ne p = simp p (go set e ne)
     where
       go : (x : ℕ) → x ≡ risingSet r → (x ≡ 0 → ⊥)
-          → elim (risingSet r) [ suc k ↦ raised (suc k) | zero ↦ roundFalling (r .items) (aboveZero r) (reportsOf r) ] ≡ raised x
+          → elim (risingSet r) [ suc k ↦ raised (suc k) | zero ↦ roundFalling (r .items) (itemsAbove r) (reportsOf r) ] ≡ raised x
       go zero e ne = absurd (ne refl)
-      go (suc k) e ne = ap (λ (x : ℕ). elim x [ suc k ↦ raised (suc k) | zero ↦ roundFalling (r .items) (aboveZero r) (reportsOf r) ]) (sym e)
+      go (suc k) e ne = ap (λ (x : ℕ). elim x [ suc k ↦ raised (suc k) | zero ↦ roundFalling (r .items) (itemsAbove r) (reportsOf r) ]) (sym e)
 
   -- the rising set is empty
-  low : risingSet r ≡ 0 → roundBy r ≡ roundFalling (r .items) (aboveZero r) (reportsOf r)
+  low : risingSet r ≡ 0 → roundBy r ≡ roundFalling (r .items) (itemsAbove r) (reportsOf r)
   unfolding roundBy round risingSet
   low z = go (r .phase)
     where
-      go : (p : Phase) → round (r .items) (aboveZero r) (reportsOf r) (ruled p) ≡ roundFalling (r .items) (aboveZero r) (reportsOf r)
-      go Rising = ap (λ (x : ℕ). elim x [ suc k ↦ raised (suc k) | zero ↦ roundFalling (r .items) (aboveZero r) (reportsOf r) ]) z
+      go : (p : Phase) → round (r .items) (itemsAbove r) (reportsOf r) (ruled p) ≡ roundFalling (r .items) (itemsAbove r) (reportsOf r)
+      go Rising = ap (λ (x : ℕ). elim x [ suc k ↦ raised (suc k) | zero ↦ roundFalling (r .items) (itemsAbove r) (reportsOf r) ]) z
       go Falling = refl
       go Closed = refl
 

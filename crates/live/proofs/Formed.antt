@@ -8,17 +8,18 @@ use native.Mathlib.Decide.{decLe}
 use lib.Dec.{eqb, leb}
 use lib.ListN.{length, getD, List·getD-eq-default}
 use borrow.Author.Tests.{le-leb, leb-true, eqb-true, eq-eqb}
-use Rattle.sets.specs.Count.{_⇒_}
-use Rattle.sets.proofs.Counting.{and-left, and-right, and-both, all-use, all-make, imp-use, imp-make, not-is}
+use Rattle.sets.specs.Count.{_⇒_, allBelow}
+use Rattle.sets.proofs.Counting.{and-left, and-right, and-both, all-use, all-make, imp-use, imp-make, not-is, together}
 use Rattle.rule.specs.Sheet.{amount}
-use Rattle.rule.specs.Refusal.{badItems, badBidders, anyOver}
-use Rattle.rule.proofs.Refusal.{in-range, range-in, none-over, over-not}
+use Rattle.rule.specs.Refusal.{badItems, badBidders, anyOver, anyUnder}
+use Rattle.rule.proofs.Refusal.{in-range, range-in, none-over, over-not, none-under, under-not}
 use Rattle.reports.specs.Report.{isEmpty, beyond, unfit}
-use Rattle.live.specs.Auction.{place, hasReported, countsFit, pricesFit, unusedPrices, unusedPlaces, unusedBits, reportedFit, othersEmpty, roundsFit, closeFits, wellFormed}
+use Rattle.live.specs.Auction.{place, hasReported, countsFit, pricesFit, unusedPrices, floorsFit, fromFloors, unusedFloors, unusedPlaces, unusedBits, reportedFit, othersEmpty, roundsFit, closeFits, wellFormed}
 use Rattle.live.specs.Tidy.{Tidy}
 use Rattle.live.specs.declared.Auction.{Auction}
 
--- no price is above 4,095
+-- ---- no price, or floor, is above 4,095
+
 pub not-over : (xs : List ℕ) → anyOver xs ≡ false → (i : ℕ) → amount xs i ≤ 4095
 not-over xs e zero = unfold amount in omega arith
 not-over xs e (suc k) = unfold amount in go (decLe (length xs) k)
@@ -30,6 +31,22 @@ not-over xs e (suc k) = unfold amount in go (decLe (length xs) k)
 pub not-any-over : (xs : List ℕ) → ((i : ℕ) → amount xs i ≤ 4095) → anyOver xs ≡ false
 not-any-over xs h = over-not xs (λ k l. unfold amount in h (suc k))
 
+-- ---- prices, or floors, past the items are 0
+
+abbrev unused : ℕ → List ℕ → Bool
+unused m xs = allBelow 32 λ k. leb m k ⇒ eqb (amount xs (suc k)) 0
+
+unused-use : (m : ℕ) (xs : List ℕ) → unused m xs ≡ true → (k : ℕ) → k < 32 → m ≤ k → amount xs (suc k) ≡ 0
+unused-use m xs e k l h =
+    eqb-true (amount xs (suc k)) 0 (imp-use (leb m k) (eqb (amount xs (suc k)) 0) (all-use 32 (λ k. leb m k ⇒ eqb (amount xs (suc k)) 0) e k l) (le-leb m k h))
+
+unused-make : (m : ℕ) (xs : List ℕ) → ((k : ℕ) → k < 32 → m ≤ k → amount xs (suc k) ≡ 0) → unused m xs ≡ true
+unused-make m xs f =
+    all-make 32 (λ k. leb m k ⇒ eqb (amount xs (suc k)) 0)
+    (λ k l. imp-make (leb m k) (eqb (amount xs (suc k)) 0) (λ h. eq-eqb (amount xs (suc k)) 0 (f k l (leb-true m k h))))
+
+-- ---- the clauses
+
 pub record Formed (r : Auction) : Type 0 where
   pub some-item : 1 ≤ r .items
   pub max-items : r .items ≤ 32
@@ -37,6 +54,9 @@ pub record Formed (r : Auction) : Type 0 where
   pub max-bidders : r .bidders ≤ 64
   pub price-max : (i : ℕ) → amount (r .prices) i ≤ 4095
   pub unused-price : (k : ℕ) → k < 32 → r .items ≤ k → amount (r .prices) (suc k) ≡ 0
+  pub floor-max : (i : ℕ) → amount (r .floors) i ≤ 4095
+  pub floor-le : (i : ℕ) → amount (r .floors) i ≤ amount (r .prices) i
+  pub unused-floor : (k : ℕ) → k < 32 → r .items ≤ k → amount (r .floors) (suc k) ≡ 0
   pub unused-place : (k : ℕ) → k < 64 → r .bidders ≤ k → (isEmpty (place r k) ≡ true) × (hasReported r (suc k) ≡ false)
   pub within : (k : ℕ) → k < 64 → beyond (r .items) (place r k) ≡ false
   pub reported-fit : (k : ℕ) → k < r .bidders → hasReported r (suc k) ≡ true → unfit (r .items) (place r k) ≡ false
@@ -49,6 +69,9 @@ pub record Clauses (r : Auction) : Type 0 where
   pub counts : countsFit r ≡ true
   pub prices : pricesFit r ≡ true
   pub past-items : unusedPrices r ≡ true
+  pub floors : floorsFit r ≡ true
+  pub from-floors : fromFloors r ≡ true
+  pub past-floors : unusedFloors r ≡ true
   pub past-bidders : unusedPlaces r ≡ true
   pub past-bits : unusedBits r ≡ true
   pub reported : reportedFit r ≡ true
@@ -56,10 +79,13 @@ pub record Clauses (r : Auction) : Type 0 where
   pub rounds : roundsFit (r .phase) r ≡ true
   pub at-close : closeFits (r .phase) r ≡ true
 
-nine : (a b c d e f g h i : Bool) → a && b && c && d && e && f && g && h && i ≡ true
-    → (a ≡ true) × (b ≡ true) × (c ≡ true) × (d ≡ true) × (e ≡ true) × (f ≡ true) × (g ≡ true) × (h ≡ true) × (i ≡ true)
-nine a b c d e f g h i q =
-    let q8 = and-left (a && b && c && d && e && f && g && h) i q in
+twelve : (a b c d e f g h i j k l : Bool) → a && b && c && d && e && f && g && h && i && j && k && l ≡ true
+    → (a ≡ true) × (b ≡ true) × (c ≡ true) × (d ≡ true) × (e ≡ true) × (f ≡ true) × (g ≡ true) × (h ≡ true) × (i ≡ true) × (j ≡ true) × (k ≡ true) × (l ≡ true)
+twelve a b c d e f g h i j k l q =
+    let q11 = and-left (a && b && c && d && e && f && g && h && i && j && k) l q in
+    let q10 = and-left (a && b && c && d && e && f && g && h && i && j) k q11 in
+    let q9 = and-left (a && b && c && d && e && f && g && h && i) j q10 in
+    let q8 = and-left (a && b && c && d && e && f && g && h) i q9 in
     let q7 = and-left (a && b && c && d && e && f && g) h q8 in
     let q6 = and-left (a && b && c && d && e && f) g q7 in
     let q5 = and-left (a && b && c && d && e) f q6 in
@@ -74,37 +100,43 @@ nine a b c d e f g h i q =
       and-right (a && b && c && d && e) f q6,
       and-right (a && b && c && d && e && f) g q7,
       and-right (a && b && c && d && e && f && g) h q8,
-      and-right (a && b && c && d && e && f && g && h) i q,
+      and-right (a && b && c && d && e && f && g && h) i q9,
+      and-right (a && b && c && d && e && f && g && h && i) j q10,
+      and-right (a && b && c && d && e && f && g && h && i && j) k q11,
+      and-right (a && b && c && d && e && f && g && h && i && j && k) l q,
     )
 
 pub clauses : (r : Auction) → wellFormed r ≡ true → Clauses r
 unfolding wellFormed
 clauses r e =
-    let p = nine (countsFit r) (pricesFit r) (unusedPrices r) (unusedPlaces r) (unusedBits r) (reportedFit r) (othersEmpty r) (roundsFit (r .phase) r) (closeFits (r .phase) r) e in
+    let p = twelve (countsFit r) (pricesFit r) (unusedPrices r) (floorsFit r) (fromFloors r) (unusedFloors r) (unusedPlaces r) (unusedBits r) (reportedFit r) (othersEmpty r) (roundsFit (r .phase) r) (closeFits (r .phase) r) e in
     record {
       counts = p .0;
       prices = p .1;
       past-items = p .2;
-      past-bidders = p .3;
-      past-bits = p .4;
-      reported = p .5;
-      others = p .6;
-      rounds = p .7;
-      at-close = p .8;
+      floors = p .3;
+      from-floors = p .4;
+      past-floors = p .5;
+      past-bidders = p .6;
+      past-bits = p .7;
+      reported = p .8;
+      others = p .9;
+      rounds = p .10;
+      at-close = p .11;
     }
 
 pub tidy : (r : Auction) → wellFormed r ≡ true → Tidy r
 tidy r e = let c = clauses r e in record { counts = c .counts; prices = c .past-items; places = c .past-bidders; bits = c .past-bits }
 
-all-true : (a b c d e f g h i : Bool) → a ≡ true → b ≡ true → c ≡ true → d ≡ true → e ≡ true → f ≡ true → g ≡ true → h ≡ true → i ≡ true
-    → a && b && c && d && e && f && g && h && i ≡ true
-all-true a b c d e f g h i qa qb qc qd qe qf qg qh qi = rw (qa, qb, qc, qd, qe, qf, qg, qh, qi) refl
+all-true : (a b c d e f g h i j k l : Bool) → a ≡ true → b ≡ true → c ≡ true → d ≡ true → e ≡ true → f ≡ true → g ≡ true → h ≡ true → i ≡ true → j ≡ true → k ≡ true → l ≡ true
+    → a && b && c && d && e && f && g && h && i && j && k && l ≡ true
+all-true a b c d e f g h i j k l qa qb qc qd qe qf qg qh qi qj qk ql = rw (qa, qb, qc, qd, qe, qf, qg, qh, qi, qj, qk, ql) refl
 
 joined : (r : Auction) → Clauses r → wellFormed r ≡ true
 unfolding wellFormed
 joined r c =
-    all-true (countsFit r) (pricesFit r) (unusedPrices r) (unusedPlaces r) (unusedBits r) (reportedFit r) (othersEmpty r) (roundsFit (r .phase) r) (closeFits (r .phase) r)
-    (c .counts) (c .prices) (c .past-items) (c .past-bidders) (c .past-bits) (c .reported) (c .others) (c .rounds) (c .at-close)
+    all-true (countsFit r) (pricesFit r) (unusedPrices r) (floorsFit r) (fromFloors r) (unusedFloors r) (unusedPlaces r) (unusedBits r) (reportedFit r) (othersEmpty r) (roundsFit (r .phase) r) (closeFits (r .phase) r)
+    (c .counts) (c .prices) (c .past-items) (c .floors) (c .from-floors) (c .past-floors) (c .past-bidders) (c .past-bits) (c .reported) (c .others) (c .rounds) (c .at-close)
 
 module _ (r : Auction) where
   pub items-range : countsFit r ≡ true → (1 ≤ r .items) × (r .items ≤ 32)
@@ -130,15 +162,53 @@ module _ (r : Auction) where
 
   pub past-items-use : unusedPrices r ≡ true → (k : ℕ) → k < 32 → r .items ≤ k → amount (r .prices) (suc k) ≡ 0
   unfolding unusedPrices
-  past-items-use e k l h =
-      eqb-true (amount (r .prices) (suc k)) 0
-      (imp-use (leb (r .items) k) (eqb (amount (r .prices) (suc k)) 0) (all-use 32 (λ k. leb (r .items) k ⇒ eqb (amount (r .prices) (suc k)) 0) e k l) (le-leb (r .items) k h))
+  past-items-use = unused-use (r .items) (r .prices)
 
   pub past-items-make : ((k : ℕ) → k < 32 → r .items ≤ k → amount (r .prices) (suc k) ≡ 0) → unusedPrices r ≡ true
   unfolding unusedPrices
-  past-items-make f =
-      all-make 32 (λ k. leb (r .items) k ⇒ eqb (amount (r .prices) (suc k)) 0)
-      (λ k l. imp-make (leb (r .items) k) (eqb (amount (r .prices) (suc k)) 0) (λ h. eq-eqb (amount (r .prices) (suc k)) 0 (f k l (leb-true (r .items) k h))))
+  past-items-make = unused-make (r .items) (r .prices)
+
+  -- ---- the floors
+
+  floors-use : floorsFit r ≡ true → (i : ℕ) → amount (r .floors) i ≤ 4095
+  unfolding floorsFit
+  floors-use e = not-over (r .floors) (not-is (anyOver (r .floors)) e)
+
+  floors-make : ((i : ℕ) → amount (r .floors) i ≤ 4095) → floorsFit r ≡ true
+  unfolding floorsFit
+  floors-make h = ap not (not-any-over (r .floors) h)
+
+  from-floors-use : fromFloors r ≡ true → (i : ℕ) → amount (r .floors) i ≤ amount (r .prices) i
+  unfolding fromFloors amount
+  from-floors-use e zero = omega arith
+  from-floors-use e (suc k) = none-under (r .prices) (r .floors) (not-is (anyUnder (r .prices) (r .floors)) e) k
+
+  from-floors-make : ((i : ℕ) → amount (r .floors) i ≤ amount (r .prices) i) → fromFloors r ≡ true
+  unfolding fromFloors amount
+  from-floors-make h = ap not (under-not (r .prices) (r .floors) (λ k l. h (suc k)))
+
+  past-floors-use : unusedFloors r ≡ true → (k : ℕ) → k < 32 → r .items ≤ k → amount (r .floors) (suc k) ≡ 0
+  unfolding unusedFloors
+  past-floors-use = unused-use (r .items) (r .floors)
+
+  past-floors-make : ((k : ℕ) → k < 32 → r .items ≤ k → amount (r .floors) (suc k) ≡ 0) → unusedFloors r ≡ true
+  unfolding unusedFloors
+  past-floors-make = unused-make (r .items) (r .floors)
+
+  -- where no price exceeds 4,095 and every unused one is 0, the same goes for floors that no price is below: one clause is all three
+  pub floors-clauses : pricesFit r ≡ true → unusedPrices r ≡ true → fromFloors r ≡ floorsFit r && fromFloors r && unusedFloors r
+  floors-clauses p u = together (fromFloors r) (floorsFit r && fromFloors r && unusedFloors r) all-three one
+    where
+      all-three : fromFloors r ≡ true → floorsFit r && fromFloors r && unusedFloors r ≡ true
+      all-three e =
+          let low = from-floors-use e in
+          and-both (floorsFit r && fromFloors r) (unusedFloors r) (and-both (floorsFit r) (fromFloors r) (floors-make (λ i. omega (arith, low i, prices-use p i))) e)
+          (past-floors-make (λ k l h. omega (arith, low (suc k), past-items-use u k l h)))
+
+      one : floorsFit r && fromFloors r && unusedFloors r ≡ true → fromFloors r ≡ true
+      one e = and-right (floorsFit r) (fromFloors r) (and-left (floorsFit r && fromFloors r) (unusedFloors r) e)
+
+  -- ---- the reports
 
   abbrev vacant : ℕ → Bool
   vacant k = isEmpty (place r k) && not (hasReported r (suc k))
@@ -199,6 +269,9 @@ module _ (r : Auction) where
         max-bidders = bidders-range (c .counts) .1;
         price-max = prices-use (c .prices);
         unused-price = past-items-use (c .past-items);
+        floor-max = floors-use (c .floors);
+        floor-le = from-floors-use (c .from-floors);
+        unused-floor = past-floors-use (c .past-floors);
         unused-place = past-bidders-use (c .past-bidders);
         within = bits-use (c .past-bits);
         reported-fit = reported-use (c .reported);
@@ -214,6 +287,9 @@ module _ (r : Auction) where
         counts = counts-make (f .some-item) (f .max-items) (f .some-bidder) (f .max-bidders);
         prices = prices-make (f .price-max);
         past-items = past-items-make (f .unused-price);
+        floors = floors-make (f .floor-max);
+        from-floors = from-floors-make (f .floor-le);
+        past-floors = past-floors-make (f .unused-floor);
         past-bidders = past-bidders-make (f .unused-place);
         past-bits = bits-make (f .within);
         reported = reported-make (f .reported-fit);

@@ -11,6 +11,10 @@ use Rattle.live.specs.declared.Auction.{Auction}
 use Rattle.live.specs.declared.Phase.{Phase}
 use Rattle.live.specs.declared.Phase.the-variants.{Rising, Falling, Closed}
 
+-- no round was lowered, and the rounds raised are within the sum of prices less floors
+abbrev pub rises : Auction → Bool
+rises r = eqb (r .lowered) 0 && leb (r .raised + priceSum (r .items) (r .floors)) (priceSum (r .items) (r .prices))
+
 -- both counts are within 4,095 × items
 abbrev pub within : Auction → Bool
 within r = leb (r .raised) (4095 * r .items) && leb (priceSum (r .items) (r .prices) + r .lowered) (4095 * r .items)
@@ -22,13 +26,16 @@ module _ (r : Auction) where
   pub lowered-test : (sum : ℕ) → sum ≡ priceSum (r .items) (r .prices) → r .raised ≤ 4095 * r .items → leb (sum + r .lowered) (4095 * r .items) ≡ within r
   lowered-test sum e l = simp (le-leb (r .raised) (4095 * r .items) l, e)
 
-  pub rises-lowered : r .phase ≡ Rising → (r .lowered ≡ 0 → ⊥) → false ≡ roundsFit (r .phase) r
-  unfolding roundsFit
-  rises-lowered p ne = simp (p, ne-eqb (r .lowered) 0 ne)
+  pub was-lowered : (r .lowered ≡ 0 → ⊥) → false ≡ rises r
+  was-lowered ne = simp (ne-eqb (r .lowered) 0 ne)
 
-  pub rises-test : r .phase ≡ Rising → r .lowered ≡ 0 → (sum : ℕ) → sum ≡ priceSum (r .items) (r .prices) → leb (r .raised) sum ≡ roundsFit (r .phase) r
+  pub raised-test : (sum least : ℕ) → sum ≡ priceSum (r .items) (r .prices) → least ≡ priceSum (r .items) (r .floors) → r .lowered ≡ 0
+      → leb (r .raised + least) sum ≡ rises r
+  raised-test sum least e f z = simp (eq-eqb (r .lowered) 0 z, e, f)
+
+  pub rises-test : r .phase ≡ Rising → rises r ≡ roundsFit (r .phase) r
   unfolding roundsFit
-  rises-test p z sum e = simp (p, eq-eqb (r .lowered) 0 z, e)
+  rises-test p = simp p
 
   pub falls-test : r .phase ≡ Falling → within r ≡ roundsFit (r .phase) r
   unfolding roundsFit

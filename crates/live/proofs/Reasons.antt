@@ -7,7 +7,7 @@ use Rattle.rule.specs.Round.{Round}
 use Rattle.rule.specs.Reasons.{reasonOf, Justified}
 use Rattle.rule.proofs.Reasons.{justified}
 use Rattle.round.proofs.Reporting.{reports-length}
-use Rattle.live.specs.Auction.{reportsOf, aboveZero}
+use Rattle.live.specs.Auction.{reportsOf, itemsAbove}
 use Rattle.live.specs.Calls.{endNumber, ruled, roundBy, Ending, gives, refused, endAnswer}
 use Rattle.live.specs.declared.Auction.{Auction}
 
@@ -32,4 +32,4 @@ module _ (r : Auction) where
   moved-justified x e =
       subst (λ (y : Round). Justified (r .items) (r .bidders) (reasonOf (r .items) (reportsOf r) y)) (given x e)
       (subst (λ (n : ℕ). Justified (r .items) n (reasonOf (r .items) (reportsOf r) (roundBy r))) many
-      (justified (r .items) (aboveZero r) (reportsOf r) (ruled (r .phase))))
+      (justified (r .items) (itemsAbove r) (reportsOf r) (ruled (r .phase))))

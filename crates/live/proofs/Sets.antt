@@ -12,16 +12,16 @@ use borrow.Author.Tests.{le-leb, eqb-true}
 use Rattle.sets.specs.Bit.{has}
 use Rattle.sets.specs.Count.{toNat, anyBelow}
 use Rattle.sets.proofs.Counting.{lt-or-le, and-right, and-both, is-false, not-both, any-make}
-use Rattle.sets.proofs.Members.{setOf-lt, isSet-small}
+use Rattle.sets.proofs.Members.{isSet-small}
 use Rattle.rule.specs.Sheet.{amount}
 use Rattle.rule.specs.Excess.{excessDemand, excessSupply, aboveFloors}
 use Rattle.rule.specs.Round.{raise}
 use Rattle.round.specs.Reports.{reports, Reported}
 use Rattle.prices.specs.Prices.{raisePlaces}
-use Rattle.round.proofs.Narrowing.{aboveFloors-narrow, rising-narrow, falling-narrow}
+use Rattle.round.proofs.Narrowing.{aboveFloors-lt, aboveFloors-narrow, rising-narrow, falling-narrow}
 use Rattle.prices.proofs.Moving.{raise-room}
 use Rattle.reports.specs.Report.{isEmpty, beyond}
-use Rattle.live.specs.Auction.{place, aboveZero, reportsOf, risingSet, fallingSet, pricesFit}
+use Rattle.live.specs.Auction.{place, itemsAbove, reportsOf, risingSet, fallingSet, pricesFit}
 use Rattle.live.specs.Tidy.{Tidy}
 use Rattle.live.specs.declared.Auction.{Auction}
 use Rattle.live.proofs.Formed.{items-range, bidders-range, prices-use, past-items-use, past-bidders-use, bits-use}
@@ -71,19 +71,19 @@ module _ (r : Auction) (t : Tidy r) where
   unfolding risingSet reportsOf
   rising-here s = rising-narrow (r .items) (r .bidders) (r .sets) (reported s) (r .nulls)
 
-  pub above-here : length (r .prices) ≡ 32 → aboveFloors 32 (r .prices) ≡ aboveZero r
-  unfolding aboveZero
-  above-here e = aboveFloors-narrow (r .items) (r .prices) (items-range r (t .counts) .1) (λ k l. go k l (lt-or-le k 32))
+  pub above-here : length (r .prices) ≡ 32 → aboveFloors 32 (r .floors) (r .prices) ≡ itemsAbove r
+  unfolding itemsAbove
+  above-here e = aboveFloors-narrow (r .items) (r .floors) (r .prices) (items-range r (t .counts) .1) (λ k l. go k l (lt-or-le k 32))
     where
       go : (k : ℕ) → r .items ≤ k → (k < 32) ⊎ (32 ≤ k) → getD (r .prices) k 0 ≡ 0
       go k l (inl q) = unfold amount in past-items-use r (t .prices) k q l
       go k l (inr q) = List·getD-eq-default (r .prices) 0 {n = k} (omega (arith, e, q))
 
-  pub falling-here : Sets (r .sets) → length (r .prices) ≡ 32 → (above : ℕ) → above ≡ aboveFloors 32 (r .prices) → excessSupply 32 above (reports 64 (r .sets) (r .nulls)) ≡ fallingSet r
+  pub falling-here : Sets (r .sets) → length (r .prices) ≡ 32 → (above : ℕ) → above ≡ aboveFloors 32 (r .floors) (r .prices) → excessSupply 32 above (reports 64 (r .sets) (r .nulls)) ≡ fallingSet r
   unfolding fallingSet reportsOf
   falling-here s e above q =
       ap (λ (x : ℕ). excessSupply 32 x (reports 64 (r .sets) (r .nulls))) (q ∙ above-here e)
-      ∙ falling-narrow (r .items) (r .bidders) (r .sets) (reported s) (r .nulls) (aboveZero r) (unfold aboveZero aboveFloors in setOf-lt (r .items) _)
+      ∙ falling-narrow (r .items) (r .bidders) (r .sets) (reported s) (r .nulls) (itemsAbove r) (unfold itemsAbove in aboveFloors-lt (r .items) (r .floors) (r .prices))
 
 -- prices within 4,095 have room for one more
 toNat-one : (b : Bool) → toNat b ≤ 1

@@ -10,7 +10,7 @@ ghost use Rattle.rule.specs.Round.{raised, lowered, closed};
 ghost use Rattle.lines.specs.Lines.{writtenTo};
 ghost use Rattle.reports.specs.Report.{saying};
 ghost use Rattle.live.specs.Auction.{pricesFit, risingSet, fallingSet};
-ghost use Rattle.live.specs.Calls.{zeros, unopened, openAuction, cleared, withReport, isClosed, reportNumber, report, clearNumber, clear, atTop, settled, endingOf, endAnswer, endNext};
+ghost use Rattle.live.specs.Calls.{zeros, unopened, openAuction, openAbove, cleared, withReport, isClosed, reportNumber, report, clearNumber, clear, atTop, settled, endingOf, endAnswer, endNext};
 ghost use Rattle.live.specs.declared.Phase.the-variants.{Rising, Falling};
 ghost use Rattle.live.specs.declared.Kind.the-variants.{Raised, Lowered};
 ghost use Rattle.live.specs.declared.Ended.the-variants.{Moved, Refused};
@@ -38,12 +38,13 @@ pub enum Ended {
     Refused(u8),
 }
 
-// the record: items, bidders, prices, reports (an item set each, and the set of the bidders who say null), which bidders have
-// reported, the phase, and the counts of raising and lowering rounds
+// the record: items, bidders, prices, floors, reports (an item set each, and the set of the bidders who say null), which bidders
+// have reported, the phase, and the counts of raising and lowering rounds
 pub struct Auction {
     pub items: usize,
     pub bidders: usize,
     pub prices: [u16; 32],
+    pub floors: [u16; 32],
     pub sets: [u32; 64],
     pub nulls: u64,
     pub reported: u64,
@@ -82,6 +83,7 @@ fn zeros() -> Auction
         items: 0,
         bidders: 0,
         prices: [0; 32],
+        floors: [0; 32],
         sets: [0; 64],
         nulls: 0,
         reported: 0,
@@ -101,9 +103,9 @@ fn refused(number: u8) -> Reply
     }
 }
 
-// opens a live auction: 1, 2, 3, 4
-pub fn open(items: usize, bidders: usize, start: &[u16]) -> Reply
-    ensures { λ r. ⌜ r ≡ openAuction items bidders (now (start .entry)) ⌝ }
+// opens a live auction with floors: 1, 2, 3 (starting prices, then floors), 4, 18
+pub fn open_above(items: usize, bidders: usize, start: &[u16], floors: &[u16]) -> Reply
+    ensures { λ r. ⌜ r ≡ openAbove items bidders (now (start .entry)) (now (floors .entry)) ⌝ }
 {
     if sets::outside(32, items) {
         return refused(1);
@@ -114,16 +116,25 @@ pub fn open(items: usize, bidders: usize, start: &[u16]) -> Reply
     if start.len() != items {
         return refused(3);
     }
+    if floors.len() != items {
+        return refused(3);
+    }
     if prices::any_over(start) {
         return refused(4);
     }
+    // no starting price is above 4,095 here, so a floor above 4,095 is above its starting price: one test for both halves of 18
+    if prices::any_under(start, floors) {
+        return refused(18);
+    }
     let prices = prices::in_places(start);
+    let floors = prices::in_places(floors);
     Reply {
         number: 0,
         next: Auction {
             items,
             bidders,
             prices,
+            floors,
             sets: [0; 64],
             nulls: 0,
             reported: 0,
@@ -132,6 +143,17 @@ pub fn open(items: usize, bidders: usize, start: &[u16]) -> Reply
             lowered: 0,
         },
     }
+}
+
+// opens a live auction without floors, which is one with floors of 0: 1, 2, 3, 4
+pub fn open(items: usize, bidders: usize, start: &[u16]) -> Reply
+    ensures { λ r. ⌜ r ≡ openAuction items bidders (now (start .entry)) ⌝ }
+{
+    if 32 < items {
+        return refused(1);
+    }
+    let floors = [0u16; 32];
+    open_above(items, bidders, start, &floors[..items])
 }
 
 impl Auction {
@@ -152,8 +174,9 @@ impl Auction {
         ensures { λ r. ⌜ r ≡ fallingSet self ⌝ }
     {
         let sets = self.sets;
+        let floors = self.floors;
         let prices = self.prices;
-        round::falling(&sets, round::above_floors(&prices))
+        round::falling(&sets, round::above_floors(&floors, &prices))
     }
 
     // the phase is closed
@@ -405,8 +428,10 @@ impl Auction {
         ensures { λ r. ⌜ r ≡ places 64 (namesOf self) ⌝ }
     {
         let sets = self.sets;
+        let floors = self.floors;
         let prices = self.prices;
-        assignment::first(&sets, self.nulls, round::above_floors(&prices), self.bidders)
+        let above = round::above_floors(&floors, &prices);
+        assignment::first(&sets, self.nulls, above, self.bidders)
     }
 
     // writes the closing sheet's three lines to the front of the bytes, unless they are too few

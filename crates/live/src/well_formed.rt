@@ -3,12 +3,26 @@
 use crate::Auction;
 use crate::Phase;
 ghost use mathlib.Core.Path.{_≡_};
-ghost use mathlib.Core.Bool.{_&&_};
+ghost use mathlib.Core.Bool.{true, _&&_};
 ghost use Prim.Native.Nat.{_+_, _*_, _≤_};
 ghost use lib.Dec.{leb, eqb};
 ghost use Rattle.rule.specs.Sheet.{priceSum};
-ghost use Rattle.live.specs.Auction.{countsFit, pricesFit, unusedPrices, roundsFit, risingSet, fallingSet, closeFits, wellFormed};
+ghost use Rattle.live.specs.Auction.{countsFit, pricesFit, unusedPrices, floorsFit, fromFloors, unusedFloors, roundsFit, risingSet, fallingSet, closeFits, wellFormed};
 ghost use Rattle.live.specs.Tidy.{Tidy};
+
+// the sum of the items' prices, or of their floors
+fn price_sum(items: usize, prices: &[u16; 32]) -> u32
+    requires { ⌜ items ≤ 32 ⌝ }
+    ensures { λ r. ⌜ (r ≡ priceSum items (now (prices .entry))) × (r ≤ 65535 * items) ⌝ }
+{
+    let mut sum: u32 = 0;
+    let mut k: usize = 0;
+    while k < items {
+        sum += prices::wide(prices[k]);
+        k += 1;
+    }
+    sum
+}
 
 impl Auction {
     // not: a count is outside 1 or 2
@@ -43,18 +57,28 @@ impl Auction {
         true
     }
 
-    // the sum of the prices
-    fn price_sum(self) -> u32
-        requires { ⌜ self .items ≤ 32 ⌝ }
-        ensures { λ r. ⌜ (r ≡ priceSum (self .items) (self .prices)) × (r ≤ 65535 * self .items) ⌝ }
+    // not: a floor exceeds 4,095, a price is below its floor, or an unused floor is not zero. As no price exceeds 4,095 and every unused one is zero, the second
+    // clause over all 32 places is all three
+    fn floors_fit(self) -> bool
+        requires { ⌜ (pricesFit self ≡ true) × (unusedPrices self ≡ true) ⌝ }
+        ensures { λ r. ⌜ r ≡ floorsFit self && fromFloors self && unusedFloors self ⌝ }
     {
-        let mut sum: u32 = 0;
-        let mut k: usize = 0;
-        while k < self.items {
-            sum += prices::wide(self.prices[k]);
-            k += 1;
+        let prices = self.prices;
+        let floors = self.floors;
+        !prices::any_under(&prices, &floors)
+    }
+
+    // while rising: no round was lowered, and the rounds raised are at most the sum of prices less floors. The sums are in 64 bits, where none wraps
+    fn rounds_rising(self, sum: u32) -> bool
+        requires { ⌜ (self .items ≤ 32) × (sum ≡ priceSum (self .items) (self .prices)) ⌝ }
+        ensures { λ r. ⌜ r ≡ eqb (self .lowered) 0 && leb (self .raised + priceSum (self .items) (self .floors)) (priceSum (self .items) (self .prices)) ⌝ }
+    {
+        if self.lowered != 0 {
+            return false;
         }
-        sum
+        let floors = self.floors;
+        let least = price_sum(self.items, &floors);
+        (self.raised as u64) + (least as u64) <= sum as u64
     }
 
     // while falling or closed: the rounds raised, and the sum of prices with the rounds lowered, are at most 4,095 × items
@@ -69,20 +93,16 @@ impl Auction {
         (sum as u64) + (self.lowered as u64) <= most
     }
 
-    // not: while rising, any round was lowered or the rounds raised exceed the sum of prices; while falling or closed, as above
+    // not: while rising, any round was lowered or the rounds raised exceed the sum of prices less floors; while falling or closed, as above
     fn rounds_fit(self) -> bool
         requires { ⌜ self .items ≤ 32 ⌝ }
         ensures { λ r. ⌜ r ≡ roundsFit (self .phase) self ⌝ }
     {
-        let sum = self.price_sum();
+        let prices = self.prices;
+        let sum = price_sum(self.items, &prices);
         let phase = self.phase;
         match phase {
-            Phase::Rising => {
-                if self.lowered != 0 {
-                    return false;
-                }
-                self.raised <= sum
-            }
+            Phase::Rising => self.rounds_rising(sum),
             Phase::Falling => self.rounds_within(sum),
             Phase::Closed => self.rounds_within(sum),
         }
@@ -124,6 +144,9 @@ impl Auction {
             return false;
         }
         if !self.unused_prices() {
+            return false;
+        }
+        if !self.floors_fit() {
             return false;
         }
         // the clauses on reports, place by place in one loop

@@ -139,6 +139,6 @@ pub floors-in : (start floors : List ℕ) → ((k : ℕ) → k < length floors �
 unfolding badFloors
 floors-in start floors low most = ap₂ _||_ (under-not start floors low) (over-not floors most)
 
--- floors of 0 fit
-pub zeros-in : (start : List ℕ) (m : ℕ) → badFloors start (replicate m 0) ≡ false
-zeros-in start m = floors-in start (replicate m 0) (λ k l. omega (arith, zeros-at m k)) (λ k l. omega (arith, zeros-at m k))
+-- floors of 0 turn nothing down
+pub floors-none : (start : List ℕ) (m : ℕ) → badFloors start (replicate m 0) ≡ false
+floors-none start m = floors-in start (replicate m 0) (λ k l. omega (arith, zeros-at m k)) (λ k l. omega (arith, zeros-at m k))

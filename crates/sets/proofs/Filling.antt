@@ -1,12 +1,12 @@
 -- A list of w places that a loop fills one after the other. Assumes nothing.
-use Prim.Native.Nat.{ℕ, _+_, _-_, _≤_, _<_}
-use mathlib.Core.Path.{_≡_, sym, ap, _∙_}
-use mathlib.Core.List.{List, _++_}
+use Prim.Native.Nat.{ℕ, zero, suc, _+_, _-_, _≤_, _<_}
+use mathlib.Core.Path.{_≡_, refl, sym, ap, _∙_}
+use mathlib.Core.List.{List, _∷_, _++_}
 use mathlib.Core.Logic.{_⊎_, inl, inr}
 use native.Mathlib.Omega.{arith}
-use native.Mathlib.Nat.{zero-add}
+use native.Mathlib.Nat.{not-suc-le-zero, zero-add}
 use lib.ListN.{length, getD, take, drop, set, length-set, length-replicate, length-append, length-drop, replicate, getD-replicate, List·getD-append, List·getD-eq-default}
-use lib.Seq.{getD-set-same, getD-set-other, getD-drop, getD-append-add, ext-getD, length-take-le, getD-take}
+use lib.Seq.{getD-set-same, getD-set-other, getD-drop, getD-append-add, ext-getD}
 use borrow.Author.Count.{below-none, below-more}
 use Rattle.sets.specs.Lists.{tabulate, places}
 use Rattle.sets.proofs.Counting.{lt-or-le}
@@ -18,6 +18,11 @@ zeros-at n k = go (lt-or-le k n)
     go : (k < n) ⊎ (n ≤ k) → _≡_ {A = ℕ} (getD (replicate n 0) k 0) 0
     go (inl l) = getD-replicate n k 0 0 l
     go (inr l) = List·getD-eq-default (replicate n 0) 0 {n = k} (omega (arith, length-replicate {A = ℕ} n 0))
+
+pub take-zeros : (m w : ℕ) → m ≤ w → _≡_ {A = List ℕ} (take m (replicate w 0)) (replicate m 0)
+take-zeros zero w l = refl
+take-zeros (suc m) zero l = absurd (not-suc-le-zero l)
+take-zeros (suc m) (suc w) l = ap (λ (xs : List ℕ). 0 ∷ xs) (take-zeros m w (omega arith))
 
 -- the places below i have what f says, and the others zeros
 pub record Filled (w : ℕ) (f : ℕ → ℕ) (i : ℕ) (xs : List ℕ) : Type 0 where
@@ -67,14 +72,6 @@ front-places w m xs l e =
           ∙ zeros-at w (m + (k - length xs));
     })
     (omega arith)
-
--- the first m of w zeros
-pub zeros-part : (m w : ℕ) → m ≤ w → take {A = ℕ} m (replicate w 0) ≡ replicate m 0
-zeros-part m w l =
-    let zeros : List ℕ = replicate w 0 in
-    let long : length (take m zeros) ≡ m = length-take-le m zeros (omega (arith, length-replicate {A = ℕ} w 0)) in
-    ext-getD 0 (take m zeros) (replicate m 0) (long ∙ sym (length-replicate {A = ℕ} m 0))
-    (λ k h. getD-take m zeros k 0 (omega (arith, h, long)) ∙ zeros-at w k ∙ sym (zeros-at m k))
 
 -- zeros in w places
 pub zeros-places : (w m : ℕ) → places w (replicate m 0) ≡ replicate w 0

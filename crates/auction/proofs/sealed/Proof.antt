@@ -5,7 +5,7 @@ use mathlib.Core.List.{List}
 use native.Mathlib.Omega.{arith}
 use lib.ListN.{replicate, length-replicate}
 use lib.Seq.{length-take-le}
-use Rattle.sets.proofs.Filling.{zeros-part}
+use Rattle.sets.proofs.Filling.{take-zeros}
 use Rattle.auction.specs.Sealed.{sealedAboveOf}
 use Rattle.auction.proofs.Sealing.{too-many-items, zero-floors, sealed-promised}
 use borrow.Author.Needs.{needs}
@@ -34,7 +34,7 @@ returns-2 : tie.Need-returns-2
 returns-2 c =
     let a = c .before .before .before .before .before .args in
     let e = c .sealed-above .ensures .0
-    ∙ ap (λ (floors : List ℕ). sealedAboveOf (a .items) (a .bidders) (a .start .now) floors (a .bids .now)) (zeros-part (a .items) 32 (c .before .before .if1 .left))
+    ∙ ap (λ (floors : List ℕ). sealedAboveOf (a .items) (a .bidders) (a .start .now) floors (a .bids .now)) (take-zeros (a .items) 32 (c .before .before .if1 .left))
     ∙ zero-floors (a .items) (a .bidders) (a .start .now) (a .bids .now) in
     (e, sealed-promised (a .items) (a .bidders) (a .start .now) (a .bids .now) _ e)
 

@@ -5,7 +5,7 @@ use mathlib.Core.List.{List}
 use native.Mathlib.Omega.{arith}
 use lib.ListN.{replicate, length-replicate}
 use lib.Seq.{length-take-le}
-use Rattle.sets.proofs.Filling.{zeros-part}
+use Rattle.sets.proofs.Filling.{take-zeros}
 use Rattle.rule.specs.Refusal.{badItems}
 use Rattle.rule.proofs.Refusal.{given, over-range}
 use Rattle.bids.specs.Refusal.{sealedRefusal, sealedAboveRefusal}
@@ -33,7 +33,7 @@ returns-2 : tie.Need-returns-2
 returns-2 c =
     let a = c .before .before .before .before .before .args in
     c .refusal-above .ensures
-    ∙ ap (λ (floors : List ℕ). sealedAboveRefusal (a .items) (a .bidders) (a .start .now) floors (a .bids .now)) (zeros-part (a .items) 32 (c .before .before .if1 .left))
+    ∙ ap (λ (floors : List ℕ). sealedAboveRefusal (a .items) (a .bidders) (a .start .now) floors (a .bids .now)) (take-zeros (a .items) 32 (c .before .before .if1 .left))
     ∙ without-floors (a .items) (a .bidders) (a .start .now) (a .bids .now)
 
 pub refusal-spec : {M : Type 1} → statement M

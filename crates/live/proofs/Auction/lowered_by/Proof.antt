@@ -21,6 +21,7 @@ moved r set n p =
         items = n .items;
         bidders = n .bidders;
         prices = p;
+        floors = n .floors;
         sets = n .sets;
         nulls = n .nulls;
         reported = n .reported;
@@ -42,10 +43,10 @@ add-t10 c = search needs
 returns : tie.Need-returns
 unfolding cleared settled
 returns c =
-    let r = c .before .before .before .before .before .before .args .self in
-    let set = c .before .before .before .before .before .before .args .set in
-    ap (λ (n : Auction). moved r set n (c .before .before .before .lowered .result)) (c .before .before .cleared .ensures)
-    ∙ ap (moved r set (cleared r)) (c .before .before .before .lowered .ensures)
+    let r = c .before .before .before .before .before .before .before .args .self in
+    let set = c .before .before .before .before .before .before .before .args .set in
+    ap (λ (n : Auction). moved r set n (c .before .before .before .before .lowered .result)) (c .before .before .before .cleared .ensures)
+    ∙ ap (moved r set (cleared r)) (c .before .before .before .before .lowered .ensures)
 
 pub lowered-by-spec : {M : Type 1} → statement M
 lowered-by-spec = tie.close (tie.spec lowered-requires cleared-requires add-t10 returns)

@@ -22,6 +22,7 @@ moved r set n p =
         items = n .items;
         bidders = n .bidders;
         prices = p;
+        floors = n .floors;
         sets = n .sets;
         nulls = n .nulls;
         reported = n .reported;
@@ -43,10 +44,10 @@ add-t10 c = search needs
 returns : tie.Need-returns
 unfolding cleared settled
 returns c =
-    let r = c .before .before .before .before .before .before .args .self in
-    let set = c .before .before .before .before .before .before .args .set in
-    ap (λ (n : Auction). moved r set n (c .before .before .before .raised .result)) (c .before .before .cleared .ensures)
-    ∙ ap (moved r set (cleared r)) (c .before .before .before .raised .ensures ∙ raised-here r (c .before .before .before .before .before .before .pre .0) set)
+    let r = c .before .before .before .before .before .before .before .args .self in
+    let set = c .before .before .before .before .before .before .before .args .set in
+    ap (λ (n : Auction). moved r set n (c .before .before .before .before .raised .result)) (c .before .before .before .cleared .ensures)
+    ∙ ap (moved r set (cleared r)) (c .before .before .before .before .raised .ensures ∙ raised-here r (c .before .before .before .before .before .before .before .pre .0) set)
 
 pub raised-by-spec : {M : Type 1} → statement M
 raised-by-spec = tie.close (tie.spec raised-requires cleared-requires add-t10 returns)

@@ -36,6 +36,7 @@ returns c =
       items = r .items;
       bidders = r .bidders;
       prices = r .prices;
+      floors = r .floors;
       sets = set (r .sets) (b - 1) new;
       nulls = c .before .add-bidder .result;
       reported = c .with-bidder .result;
@@ -43,7 +44,7 @@ returns c =
       raised = r .raised;
       lowered = r .lowered;
     })
-    (withReport r b (saying n new)) refl refl refl refl
+    (withReport r b (saying n new)) refl refl refl refl refl
     (c .before .add-bidder .ensures)
     (c .with-bidder .ensures) refl refl refl
 

@@ -1,4 +1,4 @@
--- `live::Auction::price_sum` meets its contract. Assumes nothing.
+-- `live::well_formed::price_sum` meets its contract. Assumes nothing.
 use mathlib.Core.Path.{_≡_, refl, ap, _∙_}
 use mathlib.Core.List.{List}
 use Prim.Native.Nat.{ℕ, suc, _+_, _*_, _-_, _≤_}
@@ -8,8 +8,8 @@ use lib.ListN.{getD}
 use borrow.Author.Needs.{needs}
 use Rattle.sets.specs.Sum.{sum}
 use Rattle.rule.specs.Sheet.{amount, priceSum}
-use Rattle.live.proofs.Auction.price_sum.Statement.{statement}
-use Rattle.live.proofs.Auction.price_sum.Tie as tie
+use Rattle.live.proofs.well_formed.price_sum.Statement.{statement}
+use Rattle.live.proofs.well_formed.price_sum.Tie as tie
 
 abbrev sumOf : ℕ → List ℕ → ℕ
 sumOf k p = sum k (λ j. amount p (suc j))
@@ -19,10 +19,10 @@ unfolding sum amount
 sum-more k p = ap (λ (n : ℕ). sumOf n p) (add-one k)
 
 abbrev Inv-loop : tie.InvT-loop
-Inv-loop self sum₀ k₀ sum k = (sum ≡ sumOf k (self .prices)) × (sum ≤ 65535 * k) × (k ≤ self .items) × (self .items ≤ 32)
+Inv-loop items prices sum₀ k₀ sum k = (sum ≡ sumOf k prices) × (sum ≤ 65535 * k) × (k ≤ items) × (items ≤ 32)
 
 abbrev μ-loop : tie.MeasureT-loop
-μ-loop self sum₀ k₀ sum k = self .items - k
+μ-loop items prices sum₀ k₀ sum k = items - k
 
 loop-holds : tie.Need-loop-holds Inv-loop μ-loop
 unfolding sum
@@ -49,7 +49,7 @@ loop-less c = search needs
 loop-again : tie.Need-loop-again Inv-loop μ-loop
 loop-again c =
     let at = c .before .before .before .loop in
-    let p : List ℕ = c .before .before .before .before .args .t1 .prices in
+    let p : List ℕ = c .before .before .before .before .args .prices .now in
     let e : c .wide .result ≡ getD p (at .k) 0 = c .wide .ensures .0 in
     (omega (arith, at .inv .0, e, sum-more (at .k) p), omega (arith, at .inv .1, c .wide .ensures .1), omega arith, at .inv .3)
 
@@ -57,9 +57,9 @@ returns : tie.Need-returns Inv-loop μ-loop
 unfolding priceSum
 returns c =
     let at = c .before .loop in
-    let r = c .before .before .args .t1 in
-    let e : at .k ≡ r .items = omega (arith, at .inv .2) in
-    (at .inv .0 ∙ ap (λ (n : ℕ). sumOf n (r .prices)) e, omega (arith, at .inv .1, e))
+    let a = c .before .before .args in
+    let e : at .k ≡ a .items = omega (arith, at .inv .2) in
+    (at .inv .0 ∙ ap (λ (n : ℕ). sumOf n (a .prices .now)) e, omega (arith, at .inv .1, e))
 
 pub price-sum-spec : {M : Type 1} → statement M
 price-sum-spec =
