@@ -16,13 +16,13 @@ use Rattle.rule.specs.Demand.{surplusAtLeast, best, demand, demands, wants, nth
 use Rattle.rule.specs.Excess.{bidders, crowded, inExcess, inPositiveExcess, excessDemand, positiveExcessDemand, excessSupply, aboveFloors}
 use Rattle.rule.specs.Round.{raise, lower, raised, lowered, closed, roundFalling, round, move, roundAt, after, opening, path, mostRounds, close}
 use Rattle.rule.specs.Assignment.{option, holders, isAssignment, fits, someList, choose, assignment}
-use Rattle.rule.specs.Refusal.{first, badItems, badBidders, badLength, anyOver, badBidder}
+use Rattle.rule.specs.Refusal.{first, badItems, badBidders, badLength, anyOver, anyUnder, badFloors, badBidder}
 use Rattle.digits.specs.Digits.{digit, hex}
 use Rattle.lines.specs.Lines.{newline, joined, pricesLine, closingSheet, closingLength, writtenTo}
 use Rattle.round.specs.Reports.{reports}
 use Rattle.reports.specs.Report.{saying, isEmpty, beyond, unfit}
-use Rattle.live.specs.Auction.{place, hasReported, missing, reportsOf, aboveZero, risingSet, fallingSet, countsFit, pricesFit, unusedPrices, unusedPlaces, unusedBits, reportedFit, othersEmpty, roundsFit, closeFits, wellFormed}
-use Rattle.live.specs.Calls.{openNumber, opened, unopened, openAuction, reportNumber, withReport, report, clearNumber, cleared, clear, atTop, endNumber, roundBy, settled, gives, refused, endAnswer, endNext}
+use Rattle.live.specs.Auction.{place, hasReported, missing, reportsOf, itemsAbove, risingSet, fallingSet, countsFit, pricesFit, unusedPrices, floorsFit, fromFloors, unusedFloors, unusedPlaces, unusedBits, reportedFit, othersEmpty, roundsFit, closeFits, wellFormed}
+use Rattle.live.specs.Calls.{openAboveNumber, opened, unopened, openAbove, reportNumber, withReport, report, clearNumber, cleared, clear, atTop, endNumber, roundBy, settled, gives, refused, endAnswer, endNext}
 use Rattle.live.specs.Reading.{readNumber, namesOf, sheetOf, readBytes}
 use Rattle.live.specs.declared.Auction.{Auction}
 use Rattle.live.specs.declared.Phase.{Phase}
@@ -33,7 +33,7 @@ use Rattle.agreement.specs.Agreement.{openingOf, liveRun, standsFor, all
 
 -- the definitions that the instances compute with
 computing : Unit {0}
-unfolding amount row surplusAtLeast best demand demands wants nth bidders crowded inExcess inPositiveExcess excessDemand positiveExcessDemand excessSupply aboveFloors raise lower roundFalling round move roundAt after opening path mostRounds close option holders isAssignment fits someList choose assignment allBelow anyBelow count bit isSet has setOf each any size lowest largestBelow largest sum priceSum first badItems badBidders badLength anyOver badBidder tabulate places digit hex newline joined pricesLine closingSheet closingLength writtenTo reports place hasReported missing isEmpty beyond unfit reportsOf aboveZero risingSet fallingSet countsFit pricesFit unusedPrices unusedPlaces unusedBits reportedFit othersEmpty roundsFit closeFits wellFormed openNumber opened unopened openAuction saying reportNumber withReport report clearNumber cleared clear atTop endNumber roundBy settled endAnswer endNext readNumber namesOf sheetOf readBytes call run begin at phaseOf phase doesStand said saidAll isMissing sameBool sameDemand standsAs demandsStand tells machineReport machineClear machineReadNumber sealedSheet machineRead machineEndNumber next turned machineEnd machine behind machineRun openingOf liveRun standsFor allRounds
+unfolding amount row surplusAtLeast best demand demands wants nth bidders crowded inExcess inPositiveExcess excessDemand positiveExcessDemand excessSupply aboveFloors raise lower roundFalling round move roundAt after opening path mostRounds close option holders isAssignment fits someList choose assignment allBelow anyBelow count bit isSet has setOf each any size lowest largestBelow largest sum priceSum first badItems badBidders badLength anyOver anyUnder badFloors badBidder tabulate places digit hex newline joined pricesLine closingSheet closingLength writtenTo reports place hasReported missing isEmpty beyond unfit reportsOf itemsAbove risingSet fallingSet countsFit pricesFit unusedPrices floorsFit fromFloors unusedFloors unusedPlaces unusedBits reportedFit othersEmpty roundsFit closeFits wellFormed openAboveNumber opened unopened openAbove saying reportNumber withReport report clearNumber cleared clear atTop endNumber roundBy settled endAnswer endNext readNumber namesOf sheetOf readBytes call run begin at phaseOf phase doesStand said saidAll isMissing sameBool sameDemand standsAs demandsStand tells machineReport machineClear machineReadNumber sealedSheet machineRead machineEndNumber next turned machineEnd machine behind machineRun openingOf liveRun standsFor allRounds
 computing = tt
 
 -- ---- an instance: a sheet, calls with their answers, and the record after them
@@ -66,13 +66,14 @@ pub record Agreed (s : Sheet) (xs : Answers) (r : Auction) : Type 0 where
   pub machine-holds : standsFor s (afterAll s xs) ≡ r
   pub live : liveRun s (callsOf xs) ≡ record { answers = answersOf xs; last = r }
 
--- a record: items, bidders, prices, the reports' item sets, the bidders whose report has null, those who have reported, phase, rounds raised and lowered
-abbrev pub holding : ℕ → ℕ → List ℕ → List ℕ → ℕ → ℕ → Phase → ℕ → ℕ → Auction
-holding m n p sets nulls reported ph ups downs =
+-- a record: items, bidders, prices, floors, the reports' item sets, the bidders whose report has null, those who have reported, phase, rounds raised and lowered
+abbrev pub holding : ℕ → ℕ → List ℕ → List ℕ → List ℕ → ℕ → ℕ → Phase → ℕ → ℕ → Auction
+holding m n p floors sets nulls reported ph ups downs =
     record {
       items = m;
       bidders = n;
       prices = places 32 p;
+      floors = places 32 floors;
       sets = places 64 sets;
       nulls = nulls;
       reported = reported;
@@ -84,7 +85,7 @@ holding m n p sets nulls reported ph ups downs =
 -- ---- one item at 1, one bidder who bids 1: lowered and closed, and refused before and after
 
 abbrev pub one : Sheet
-one = record { items = 1; start = 1 ∷ []; bids = (1 ∷ []) ∷ [] }
+one = record { items = 1; start = 1 ∷ []; floors = 0 ∷ []; bids = (1 ∷ []) ∷ [] }
 
 abbrev pub oneList : Answers
 oneList =
@@ -99,7 +100,7 @@ oneList =
     ∷ []
 
 abbrev pub closedOne : Auction
-closedOne = holding 1 1 (0 ∷ []) (1 ∷ []) 0 1 Closed 0 1
+closedOne = holding 1 1 (0 ∷ []) [] (1 ∷ []) 0 1 Closed 0 1
 
 pub closes : Agreed one oneList closedOne
 unfolding computing
@@ -124,7 +125,7 @@ live-reads = refl
 
 -- ---- K5, one item at 0 and one bidder who bids 0: the report that follows the sheet is null alone, and the read shows no item
 abbrev pub zero-bid : Sheet
-zero-bid = record { items = 1; start = 0 ∷ []; bids = (0 ∷ []) ∷ [] }
+zero-bid = record { items = 1; start = 0 ∷ []; floors = 0 ∷ []; bids = (0 ∷ []) ∷ [] }
 
 abbrev pub zeroList : Answers
 zeroList =
@@ -133,7 +134,7 @@ zeroList =
     ∷ (reading (replicate 21 7), shown 0 (48 ∷ 48 ∷ 48 ∷ 48 ∷ 48 ∷ 48 ∷ 48 ∷ 48 ∷ 48 ∷ 48 ∷ 48 ∷ 48 ∷ 10 ∷ 48 ∷ 48 ∷ 48 ∷ 48 ∷ 10 ∷ 48 ∷ 48 ∷ 10 ∷ []))
     ∷ []
 
-pub no-item : Agreed zero-bid zeroList (holding 1 1 (0 ∷ []) [] 1 1 Closed 0 0)
+pub no-item : Agreed zero-bid zeroList (holding 1 1 (0 ∷ []) [] [] 1 1 Closed 0 0)
 unfolding computing
 no-item = record { machine-answers = refl; machine-holds = refl; live = refl }
 
@@ -143,18 +144,18 @@ unfolding computing
 leaves-with-it = refl
 
 -- ---- example 6: its first round raises item 2 and empties the reports
-pub raises : Agreed (record { items = 2; start = 4 ∷ 4 ∷ []; bids = (2 ∷ 6 ∷ []) ∷ (3 ∷ 7 ∷ []) ∷ (6 ∷ 7 ∷ []) ∷ [] })
+pub raises : Agreed (record { items = 2; start = 4 ∷ 4 ∷ []; floors = 0 ∷ 0 ∷ []; bids = (2 ∷ 6 ∷ []) ∷ (3 ∷ 7 ∷ []) ∷ (6 ∷ 7 ∷ []) ∷ [] })
     ((reporting 1 (saying false 2), told 0)
     ∷ (reporting 2 (saying false 2), told 0)
     ∷ (reporting 3 (saying false 2), told 0)
     ∷ (ending, ended (gives (raised 2)))
     ∷ [])
-    (holding 2 3 (4 ∷ 5 ∷ []) [] 0 0 Rising 1 0)
+    (holding 2 3 (4 ∷ 5 ∷ []) [] [] 0 0 Rising 1 0)
 unfolding computing
 raises = record { machine-answers = refl; machine-holds = refl; live = refl }
 
 -- ---- "One pan at 5, two rakers report no pan, the rent falls to 4, both report the pan alone: 16."
-pub sixteen : Agreed (record { items = 1; start = 5 ∷ []; bids = (0 ∷ []) ∷ (0 ∷ []) ∷ [] })
+pub sixteen : Agreed (record { items = 1; start = 5 ∷ []; floors = 0 ∷ []; bids = (0 ∷ []) ∷ (0 ∷ []) ∷ [] })
     ((reporting 1 (saying true 0), told 0)
     ∷ (reporting 2 (saying true 0), told 0)
     ∷ (ending, ended (gives (lowered 1)))
@@ -162,16 +163,27 @@ pub sixteen : Agreed (record { items = 1; start = 5 ∷ []; bids = (0 ∷ []) �
     ∷ (reporting 2 (saying false 1), told 0)
     ∷ (ending, ended (refused 16))
     ∷ [])
-    (holding 1 2 (4 ∷ []) (1 ∷ 1 ∷ []) 0 3 Falling 0 1)
+    (holding 1 2 (4 ∷ []) [] (1 ∷ 1 ∷ []) 0 3 Falling 0 1)
 unfolding computing
 sixteen = record { machine-answers = refl; machine-holds = refl; live = refl }
 
 -- ---- "One pan at 4,095, both report it alone: 17."
-pub seventeen : Agreed (record { items = 1; start = 4095 ∷ []; bids = (0 ∷ []) ∷ (0 ∷ []) ∷ [] })
+pub seventeen : Agreed (record { items = 1; start = 4095 ∷ []; floors = 0 ∷ []; bids = (0 ∷ []) ∷ (0 ∷ []) ∷ [] })
     ((reporting 1 (saying false 1), told 0)
     ∷ (reporting 2 (saying false 1), told 0)
     ∷ (ending, ended (refused 17))
     ∷ [])
-    (holding 1 2 (4095 ∷ []) (1 ∷ 1 ∷ []) 0 3 Rising 0 0)
+    (holding 1 2 (4095 ∷ []) [] (1 ∷ 1 ∷ []) 0 3 Rising 0 0)
 unfolding computing
 seventeen = record { machine-answers = refl; machine-holds = refl; live = refl }
+
+-- ---- floors: an item at 3 with floor 2, which nobody bids for, falls to 2 and stays there at the close
+pub floored : Agreed (record { items = 1; start = 3 ∷ []; floors = 2 ∷ []; bids = (0 ∷ []) ∷ [] })
+    ((reporting 1 (saying true 0), told 0)
+    ∷ (ending, ended (gives (lowered 1)))
+    ∷ (reporting 1 (saying true 0), told 0)
+    ∷ (ending, ended (gives closed))
+    ∷ [])
+    (holding 1 1 (2 ∷ []) (2 ∷ []) (0 ∷ []) 1 1 Closed 0 1)
+unfolding computing
+floored = record { machine-answers = refl; machine-holds = refl; live = refl }

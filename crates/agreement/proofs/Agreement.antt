@@ -1,5 +1,5 @@
 -- The agreement of the live auction with the plain machine, over the whole list. Assumes nothing.
-use Prim.Native.Nat.{ℕ, _≤_}
+use Prim.Native.Nat.{ℕ, suc, _≤_}
 use mathlib.Core.Path.{_≡_, refl, sym, ap, _∙_, subst}
 use mathlib.Core.Bool.{Bool, true, false}
 use mathlib.Core.List.{List, [], _∷_}
@@ -7,13 +7,13 @@ use native.Mathlib.Omega.{arith}
 use native.Mathlib.Nat.{not-suc-le-zero}
 use native.Mathlib.Decide.{decLe}
 use lib.ListN.{length}
-use Rattle.rule.specs.Sheet.{Sheet, withinLimits}
+use Rattle.rule.specs.Sheet.{amount, Sheet, withinLimits}
 use Rattle.rule.specs.Round.{closed, path, after, opening}
 use Rattle.rule.specs.Closing.{roundOf, Closing}
 use Rattle.rule.specs.Refusal.{badItems, badBidders}
 use Rattle.rule.proofs.Limits.{Limits, limits}
 use Rattle.rule.proofs.Closing.{closing}
-use Rattle.rule.proofs.Refusal.{range-in}
+use Rattle.rule.proofs.Refusal.{range-in, under-not}
 use Rattle.sets.proofs.Counting.{not-both}
 use Rattle.live.specs.Auction.{wellFormed}
 use Rattle.live.specs.Calls.{isClosed, opened, endNumber, endAnswer}
@@ -27,7 +27,7 @@ use Rattle.agreement.specs.Machine.{Machine, begin, at, phase, phaseOf, 
 use Rattle.agreement.specs.Agreement.{openingOf, liveRun, standsFor, allRounds, never, ClosedAs, Agrees}
 use Rattle.agreement.proofs.Along.{closes-at, not-sooner}
 use Rattle.live.proofs.Formed.{not-any-over}
-use Rattle.agreement.proofs.Always.{Sound, keeps, keeps-all, never-eleven, open-sound}
+use Rattle.agreement.proofs.Always.{Sound, keeps, keeps-all, never-eleven, above-sound}
 use Rattle.agreement.proofs.Counted.{rounds-are}
 use Rattle.agreement.proofs.Follows.{Good, Follows, no-nulls, no-reported, no-sets}
 use Rattle.agreement.proofs.Standing.{closed-stands}
@@ -49,15 +49,15 @@ module _ (s : Sheet) (lim : Limits s) where
   abbrev n : ℕ
   n = length (s .bids)
 
-  opens-as : openingOf s ≡ record { number = 0; next = opened m n (s .start) }
+  opens-as : openingOf s ≡ record { number = 0; next = opened m n (s .start) (s .floors) }
   unfolding openingOf
   opens-as =
-      accepts m n (s .start) (unfold badItems in range-in 32 m (lim .some-item) (lim .max-items)) (unfold badBidders in range-in 64 n (lim .some-bidder) (lim .max-bidders))
-      (lim .start .long) (not-any-over (s .start) (lim .start .most))
+      accepts m n (s .start) (s .floors) (unfold badItems in range-in 32 m (lim .some-item) (lim .max-items)) (unfold badBidders in range-in 64 n (lim .some-bidder) (lim .max-bidders))
+      (lim .start .long) (lim .floors .long) (not-any-over (s .start) (lim .start .most)) (under-not (s .start) (s .floors) (λ k l. unfold amount in lim .floor-le (suc k)))
 
-  opened-is : opened m n (s .start) ≡ standsFor s begin
+  opened-is : opened m n (s .start) (s .floors) ≡ standsFor s begin
   unfolding opened standsFor begin at phase phaseOf path after opening
-  opened-is = by-parts (opened m n (s .start)) (standsFor s begin) refl refl refl no-sets no-nulls no-reported refl refl refl
+  opened-is = by-parts (opened m n (s .start) (s .floors)) (standsFor s begin) refl refl refl refl no-sets no-nulls no-reported refl refl refl
 
   opens : openingOf s .number ≡ 0
   opens = ap (λ (x : Reply). x .number) opens-as
@@ -67,7 +67,7 @@ module _ (s : Sheet) (lim : Limits s) where
 
   opens-sound : Sound (openingOf s .next)
   unfolding openingOf
-  opens-sound = open-sound m n (s .start) opens
+  opens-sound = above-sound m n (s .start) (s .floors) opens
 
   good-begin : Good s begin
   unfolding begin

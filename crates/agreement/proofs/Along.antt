@@ -56,7 +56,7 @@ module _ (s : Sheet) where
   -- a round that raises finds the path rising
   pub rising-at : (k x : ℕ) → roundOf s k ≡ raised x → path s k .phase ≡ rising
   unfolding roundAt
-  rising-at k x e = raised-rising m (aboveFloors m (path s k .prices)) (path s k .phase) (demandsAt s (path s k .prices)) x e
+  rising-at k x e = raised-rising m (aboveFloors m (s .floors) (path s k .prices)) (path s k .phase) (demandsAt s (path s k .prices)) x e
 
   -- what a round moves is a set of the sheet's items
   pub moved-small : (k : ℕ) (r : Round) → roundOf s k ≡ r → movedBy r < 2 ^ m
@@ -64,7 +64,7 @@ module _ (s : Sheet) where
   moved-small k r e = subst (λ (y : Round). movedBy y < 2 ^ m) e (go (takes m above ds (path s k .phase)))
     where
       above : ℕ
-      above = aboveFloors m (path s k .prices)
+      above = aboveFloors m (s .floors) (path s k .prices)
 
       ds : List Demand
       ds = demandsAt s (path s k .prices)

@@ -2,28 +2,29 @@
 -- list, whatever is reported. The record beside an opening that is turned down gets 11. A call that is turned down leaves record and lent bytes as before.
 -- Assumes nothing.
 use Prim.Native.Nat.{ℕ, zero, suc, _≤_, _<_}
-use mathlib.Core.Path.{_≡_, refl, sym, ap, _∙_}
+use mathlib.Core.Path.{_≡_, refl, sym, ap, _∙_, subst}
 use mathlib.Core.Bool.{Bool, true, false, _&&_, not}
 use mathlib.Core.List.{List, [], _∷_}
 use native.Mathlib.Omega.{arith}
 use native.Mathlib.Decide.{decLe}
 use lib.Dec.{eqb}
-use lib.ListN.{length, length-set, length-replicate, List·getD-eq-default}
+use lib.ListN.{length, replicate, length-set, length-replicate, List·getD-eq-default}
 use borrow.Author.Tests.{eqb-true, ne-eqb}
 use borrow.Author.Tests.{not-false as not-false-is}
 use Rattle.sets.specs.Lists.{places}
 use Rattle.sets.proofs.Counting.{and-both}
 use Rattle.sets.proofs.Lists.{places-length, places-at}
-use Rattle.rule.specs.Sheet.{amount}
+use Rattle.sets.proofs.Sums.{sum-mono}
+use Rattle.rule.specs.Sheet.{amount, priceSum}
 use Rattle.rule.specs.Demand.{Demand}
 use Rattle.rule.specs.Round.{Round, raised, lowered, closed}
-use Rattle.rule.specs.Refusal.{Refusal, on, first, badItems, badBidders, badLength, anyOver, badBidder}
-use Rattle.rule.proofs.Refusal.{passed, given, none as first-none, other, in-range}
+use Rattle.rule.specs.Refusal.{Refusal, on, first, badItems, badBidders, badLength, anyOver, badFloors, badBidder}
+use Rattle.rule.proofs.Refusal.{passed, given, none as first-none, other, in-range, floors-fit}
 use Rattle.rule.proofs.Limits.{amount-beyond}
 use Rattle.lines.specs.Lines.{writtenTo}
 use Rattle.reports.specs.Report.{unfit}
 use Rattle.live.specs.Auction.{hasReported, missing, risingSet, wellFormed}
-use Rattle.live.specs.Calls.{isClosed, isFalling, isRising, atTop, openNumber, zeros, opened, unopened, openAuction, reportNumber, withReport, report, clearNumber, cleared, clear, endNumber, roundBy, settled, gives, refused, endAnswer, endNext}
+use Rattle.live.specs.Calls.{isClosed, isFalling, isRising, atTop, openAboveNumber, zeros, opened, unopened, openAbove, openAuction, reportNumber, withReport, report, clearNumber, cleared, clear, endNumber, roundBy, settled, gives, refused, endAnswer, endNext}
 use Rattle.live.specs.Reading.{readNumber, sheetOf, readBytes}
 use Rattle.live.specs.declared.Auction.{Auction}
 use Rattle.live.specs.declared.Phase.the-variants.{Rising}
@@ -31,12 +32,14 @@ use Rattle.live.specs.declared.Reply.{Reply}
 use Rattle.agreement.specs.Calls.{Call, reporting, ending, clearing, reading, ended, call, run}
 use Rattle.agreement.specs.Agreement.{numberOf, never}
 use Rattle.live.proofs.Formed.{not-over, Formed, formed, well}
+use Rattle.live.proofs.Opening.{zero-floors}
 use Rattle.agreement.proofs.Keeps.{without-reports, not-closed, cleared-formed, reported-formed}
 use Rattle.agreement.proofs.Settles.{settled-formed, rising-make}
 
--- a record is sound if it is well formed; its item sets stand in 64 places, as those of every record of the code do
+-- a record is sound if it is well formed; its item sets stand in 64 places and its floors in 32, as those of every record of the code do
 pub record Sound (r : Auction) : Type 0 where
   pub placed : length (r .sets) ≡ 64
+  pub floored : length (r .floors) ≡ 32
   pub well-formed : wellFormed r ≡ true
 
 -- ---- calls
@@ -46,6 +49,12 @@ unfolding settled
 sets-after r (raised s) e = length-replicate {A = ℕ} 64 0
 sets-after r (lowered s) e = length-replicate {A = ℕ} 64 0
 sets-after r closed e = e
+
+floors-after : (r : Auction) (x : Round) → length (r .floors) ≡ 32 → length (settled r x .floors) ≡ 32
+unfolding settled
+floors-after r (raised s) e = e
+floors-after r (lowered s) e = e
+floors-after r closed e = e
 
 sound-by : (x : ℕ) (new r : Auction) → (x ≡ 0 → Sound new) → Sound r → Sound (elim x [ zero ↦ new | suc j ↦ r ])
 sound-by zero new r f g = f refl
@@ -71,6 +80,7 @@ module _ (r : Auction) (g : Sound r) where
       let range = bidder-range (r .bidders) b (q₃ .0) in
       record {
         placed = length-set (r .sets) _ (d .items) ∙ g .placed;
+        floored = g .floored;
         well-formed = well (withReport r b d) (reported-formed r (g .placed) f b d (range .0) (range .1) (q₄ .0) (q₅ .0) (q₂ .0));
       }
 
@@ -79,7 +89,7 @@ module _ (r : Auction) (g : Sound r) where
   clear-sound e =
       let q₁ = first-none 10 (not (wellFormed r)) _ e in
       let q₂ = first-none 11 (isClosed (r .phase)) [] (q₁ .1) in
-      record { placed = length-replicate {A = ℕ} 64 0; well-formed = well (cleared r) (cleared-formed r (q₂ .0) f) }
+      record { placed = length-replicate {A = ℕ} 64 0; floored = g .floored; well-formed = well (cleared r) (cleared-formed r (q₂ .0) f) }
 
   end-sound : endNumber r ≡ 0 → Sound (settled r (roundBy r))
   unfolding endNumber
@@ -91,7 +101,8 @@ module _ (r : Auction) (g : Sound r) where
       let q₅ = first-none 16 (isRising (r .phase) && atTop (r .items) (r .prices) (risingSet r)) [] (q₄ .1) in
       record {
         placed = sets-after r (roundBy r) (g .placed);
-        well-formed = well (settled r (roundBy r)) (settled-formed r f (q₂ .0) (q₃ .0) (q₄ .0) (q₅ .0));
+        floored = floors-after r (roundBy r) (g .floored);
+        well-formed = well (settled r (roundBy r)) (settled-formed r f (g .floored) (q₂ .0) (q₃ .0) (q₄ .0) (q₅ .0));
       }
 
   pub keeps : (c : Call) → Sound (call r c .next)
@@ -141,18 +152,20 @@ never-eleven r g (c ∷ calls) =
 
 -- ---- opening
 
-module _ (m n : ℕ) (start : List ℕ) where
-  opened-formed : openNumber m n start ≡ 0 → Formed (opened m n start)
-  unfolding openNumber opened
+module _ (m n : ℕ) (start floors : List ℕ) where
+  opened-formed : openAboveNumber m n start floors ≡ 0 → Formed (opened m n start floors)
+  unfolding openAboveNumber opened
   opened-formed e =
       let q₁ = first-none 0 (badItems m) _ e in
       let q₂ = first-none 1 (badBidders n) _ (q₁ .1) in
       let q₃ = first-none 2 (badLength start m) _ (q₂ .1) in
-      let q₄ = first-none 3 (anyOver start) [] (q₃ .1) in
+      let q₄ = first-none 2 (badLength floors m) _ (q₃ .1) in
+      let q₅ = first-none 3 (anyOver start) _ (q₄ .1) in
+      let q₆ = first-none 17 (badFloors start floors) [] (q₅ .1) in
       let items : (1 ≤ m) × (m ≤ 32) = in-range 32 m (unfold badItems in q₁ .0) in
       let bidders : (1 ≤ n) × (n ≤ 64) = in-range 64 n (unfold badBidders in q₂ .0) in
-      without-reports (opened m n start) refl refl refl (items .0) (items .1) (bidders .0) (bidders .1) (range (q₄ .0)) (past (exact (q₃ .0)))
-      (rising-make (opened m n start) refl (omega arith)) (not-closed Rising (opened m n start) refl)
+      without-reports (opened m n start floors) refl refl refl (items .0) (items .1) (bidders .0) (bidders .1) (range (q₅ .0)) (past (exact (q₃ .0))) (low (q₆ .0))
+      (rising-make (opened m n start floors) refl (omega (arith, low-sum (q₆ .0)))) (not-closed Rising (opened m n start floors) refl)
     where
       exact : badLength start m ≡ false → length start ≡ m
       exact e = eqb-true (length start) m (not-false-is (eqb (length start) m) (unfold badLength in e))
@@ -168,15 +181,31 @@ module _ (m n : ℕ) (start : List ℕ) where
       past : length start ≡ m → (k : ℕ) → k < 32 → m ≤ k → amount (places 32 start) (suc k) ≡ 0
       past e k l h = unfold amount in places-at 32 start k l ∙ List·getD-eq-default start 0 (omega arith)
 
-  abbrev replied : ℕ → Reply
-  replied x = elim x [ zero ↦ record { number = 0; next = opened m n start } | suc j ↦ unopened (suc j) ]
+      low : badFloors start floors ≡ false → (i : ℕ) → amount (places 32 floors) i ≤ amount (places 32 start) i
+      low e zero = unfold amount in omega arith
+      low e (suc k) = go (decLe 32 k)
+        where
+          go : Dec (32 ≤ k) → amount (places 32 floors) (suc k) ≤ amount (places 32 start) (suc k)
+          go (yes l) = omega (arith, amount-beyond 32 (places 32 floors) (places-length 32 floors) (suc k) (omega arith))
+          go (no l) = unfold amount in omega (arith, places-at 32 start k (omega arith), places-at 32 floors k (omega arith), floors-fit start floors e .0 k)
 
-  pub open-sound : openAuction m n start .number ≡ 0 → Sound (openAuction m n start .next)
-  unfolding openAuction
-  open-sound e = go (openNumber m n start) refl e
+      low-sum : badFloors start floors ≡ false → priceSum m (places 32 floors) ≤ priceSum m (places 32 start)
+      low-sum e = unfold priceSum in sum-mono m (λ k. amount (places 32 floors) (suc k)) (λ k. amount (places 32 start) (suc k)) (λ k l. low e (suc k))
+
+  abbrev replied : ℕ → Reply
+  replied x = elim x [ zero ↦ record { number = 0; next = opened m n start floors } | suc j ↦ unopened (suc j) ]
+
+  pub above-sound : openAbove m n start floors .number ≡ 0 → Sound (openAbove m n start floors .next)
+  unfolding openAbove
+  above-sound e = go (openAboveNumber m n start floors) refl e
     where
-      go : (x : ℕ) → openNumber m n start ≡ x → replied x .number ≡ 0 → Sound (replied x .next)
-      go zero q h = record { placed = unfold opened in length-replicate {A = ℕ} 64 0; well-formed = well (opened m n start) (opened-formed q) }
+      go : (x : ℕ) → openAboveNumber m n start floors ≡ x → replied x .number ≡ 0 → Sound (replied x .next)
+      go zero q h =
+          record {
+            placed = unfold opened in length-replicate {A = ℕ} 64 0;
+            floored = unfold opened in places-length 32 floors;
+            well-formed = well (opened m n start floors) (opened-formed q);
+          }
       go (suc j) q h = absurd (let z : suc j ≡ 0 = unfold unopened in h in omega arith)
 
 -- ---- the record beside an opening that is turned down
@@ -195,13 +224,22 @@ zeros-eleven ending = ended-number (endNumber zeros) (roundBy zeros) ∙ given 1
 zeros-eleven clearing = given 11 (not (wellFormed zeros)) _ (ap not zeros-malformed)
 zeros-eleven (reading out) = given 11 (not (wellFormed zeros)) _ (ap not zeros-malformed)
 
-pub refused-eleven : (m n : ℕ) (start : List ℕ) → (openAuction m n start .number ≡ 0 → ⊥) → (c : Call) → numberOf (call (openAuction m n start .next) c .answer) ≡ 11
-unfolding openAuction
-refused-eleven m n start ne c = go (openNumber m n start) ne
+pub above-eleven : (m n : ℕ) (start floors : List ℕ) → (openAbove m n start floors .number ≡ 0 → ⊥) → (c : Call) → numberOf (call (openAbove m n start floors .next) c .answer) ≡ 11
+unfolding openAbove
+above-eleven m n start floors ne c = go (openAboveNumber m n start floors) ne
   where
-    go : (x : ℕ) → (replied m n start x .number ≡ 0 → ⊥) → numberOf (call (replied m n start x .next) c .answer) ≡ 11
+    go : (x : ℕ) → (replied m n start floors x .number ≡ 0 → ⊥) → numberOf (call (replied m n start floors x .next) c .answer) ≡ 11
     go zero h = absurd (h refl)
     go (suc j) h = unfold unopened in zeros-eleven c
+
+-- ---- an opening without floors is one with floors of 0
+
+pub open-sound : (m n : ℕ) (start : List ℕ) → openAuction m n start .number ≡ 0 → Sound (openAuction m n start .next)
+open-sound m n start = subst (λ (x : Reply). x .number ≡ 0 → Sound (x .next)) (zero-floors m n start) (above-sound m n start (replicate m 0))
+
+pub refused-eleven : (m n : ℕ) (start : List ℕ) → (openAuction m n start .number ≡ 0 → ⊥) → (c : Call) → numberOf (call (openAuction m n start .next) c .answer) ≡ 11
+refused-eleven m n start =
+    subst (λ (x : Reply). (x .number ≡ 0 → ⊥) → (c : Call) → numberOf (call (x .next) c .answer) ≡ 11) (zero-floors m n start) (above-eleven m n start (replicate m 0))
 
 -- ---- a call that is turned down hands back the record and the lent bytes as before
 

@@ -21,7 +21,7 @@ use Rattle.rule.specs.Closing.{demandsAt, excessDemandAt, roundOf, phaseAfter, 
 use Rattle.rule.proofs.Limits.{Limits}
 use Rattle.rule.proofs.Refusal.{passed, first-nil}
 use Rattle.prices.proofs.Moving.{raise-places, lower-places}
-use Rattle.live.specs.Auction.{reportsOf, missing, aboveZero, risingSet, wellFormed}
+use Rattle.live.specs.Auction.{reportsOf, missing, itemsAbove, risingSet, wellFormed}
 use Rattle.live.specs.Calls.{isClosed, isFalling, isRising, atTop, endNumber, ruled, roundBy, settled, gives, refused, endAnswer, endNext}
 use Rattle.live.specs.declared.Phase.{Phase}
 use Rattle.live.specs.declared.Phase.the-variants.{Rising, Falling}
@@ -155,10 +155,10 @@ module _ (s : Sheet) (lim : Limits s) (c : Closing s) (t : Machine) (g : Good s 
   round-is : t .hasClosed ≡ false → demandsStand s t ≡ true → roundBy (standsFor s t) ≡ roundOf s (t .moves)
   unfolding roundBy roundAt at
   round-is o h =
-      ap (λ (x : ℕ). round x (aboveZero (standsFor s t)) (reportsOf (standsFor s t)) (ruled (standsFor s t .phase))) items-is
+      ap (λ (x : ℕ). round x (itemsAbove (standsFor s t)) (reportsOf (standsFor s t)) (ruled (standsFor s t .phase))) items-is
       ∙ ap (λ (x : ℕ). round m x (reportsOf (standsFor s t)) (ruled (standsFor s t .phase))) (above-is s t lim)
-      ∙ ap (λ (x : List Demand). round m (aboveFloors m (at s t .prices)) x (ruled (standsFor s t .phase))) (reports-is s t lim ∙ said-demands s t h)
-      ∙ ap (λ (x : RulePhase). round m (aboveFloors m (at s t .prices)) (demandsAt s (at s t .prices)) x) (phases o)
+      ∙ ap (λ (x : List Demand). round m (aboveFloors m (s .floors) (at s t .prices)) x (ruled (standsFor s t .phase))) (reports-is s t lim ∙ said-demands s t h)
+      ∙ ap (λ (x : RulePhase). round m (aboveFloors m (s .floors) (at s t .prices)) (demandsAt s (at s t .prices)) x) (phases o)
 
   -- ---- the record after it
 
@@ -180,6 +180,7 @@ module _ (s : Sheet) (lim : Limits s) (c : Closing s) (t : Machine) (g : Good s 
         items = m;
         bidders = length (s .bids);
         prices = p;
+        floors = places 32 (s .floors);
         sets = replicate 64 0;
         nulls = 0;
         reported = 0;
@@ -189,7 +190,7 @@ module _ (s : Sheet) (lim : Limits s) (c : Closing s) (t : Machine) (g : Good s 
       } ≡ standsFor s moved-on
   unfolding standsFor at phase
   moved-record q p ph after o prices phases =
-      by-parts _ (standsFor s moved-on) refl refl (prices ∙ ap (λ (z : State). places 32 (z .prices)) (sym after)) no-sets no-nulls no-reported
+      by-parts _ (standsFor s moved-on) refl refl (prices ∙ ap (λ (z : State). places 32 (z .prices)) (sym after)) refl no-sets no-nulls no-reported
       (phases ∙ ap (λ (z : State). phaseOf false (z .downs)) (sym after) ∙ ap (λ (b : Bool). phaseOf b (path s (suc (t .moves)) .downs)) (sym o))
       (ap (λ (z : State). z .ups) (sym after)) (ap (λ (z : State). z .downs) (sym after))
 

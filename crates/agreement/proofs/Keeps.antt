@@ -25,11 +25,11 @@ use Rattle.live.proofs.Formed.{Formed}
 
 -- ---- rounds and close of two records
 
-pub rounds-of : (ph : Phase) (a b : Auction) → a .items ≡ b .items → a .prices ≡ b .prices → a .raised ≡ b .raised → a .lowered ≡ b .lowered → roundsFit ph a ≡ roundsFit ph b
+pub rounds-of : (ph : Phase) (a b : Auction) → a .items ≡ b .items → a .prices ≡ b .prices → a .floors ≡ b .floors → a .raised ≡ b .raised → a .lowered ≡ b .lowered → roundsFit ph a ≡ roundsFit ph b
 unfolding roundsFit
-rounds-of Rising a b e1 e2 e3 e4 = cc
-rounds-of Falling a b e1 e2 e3 e4 = cc
-rounds-of Closed a b e1 e2 e3 e4 = cc
+rounds-of Rising a b e1 e2 e3 e4 e5 = cc
+rounds-of Falling a b e1 e2 e3 e4 e5 = cc
+rounds-of Closed a b e1 e2 e3 e4 e5 = cc
 
 pub not-closed : (ph : Phase) (q : Auction) → isClosed ph ≡ false → closeFits ph q ≡ true
 unfolding closeFits
@@ -56,8 +56,9 @@ module _ (q : Auction) (no-sets : q .sets ≡ replicate 64 0) (no-nulls : q .nul
   none-reported b = ap (λ (x : ℕ). has x b) no-reported ∙ empty-has b
 
   pub without-reports : 1 ≤ q .items → q .items ≤ 32 → 1 ≤ q .bidders → q .bidders ≤ 64 → ((i : ℕ) → amount (q .prices) i ≤ 4095)
-      → ((k : ℕ) → k < 32 → q .items ≤ k → amount (q .prices) (suc k) ≡ 0) → roundsFit (q .phase) q ≡ true → closeFits (q .phase) q ≡ true → Formed q
-  without-reports a b c d range past rounds at-close =
+      → ((k : ℕ) → k < 32 → q .items ≤ k → amount (q .prices) (suc k) ≡ 0) → ((i : ℕ) → amount (q .floors) i ≤ amount (q .prices) i)
+      → roundsFit (q .phase) q ≡ true → closeFits (q .phase) q ≡ true → Formed q
+  without-reports a b c d range past low rounds at-close =
       record {
         some-item = a;
         max-items = b;
@@ -65,6 +66,9 @@ module _ (q : Auction) (no-sets : q .sets ≡ replicate 64 0) (no-nulls : q .nul
         max-bidders = d;
         price-max = range;
         unused-price = past;
+        floor-max = λ i. omega (arith, low i, range i);
+        floor-le = low;
+        unused-floor = λ k l h. omega (arith, low (suc k), past k l h);
         unused-place = λ k l h. (is-empty k l, none-reported (suc k));
         within = λ k l. empty-within (q .items) (place q k) (is-empty k l);
         reported-fit = λ k l h. absurd (not-both (hasReported q (suc k)) h (none-reported (suc k)));
@@ -78,8 +82,8 @@ module _ (q : Auction) (no-sets : q .sets ≡ replicate 64 0) (no-nulls : q .nul
 pub cleared-formed : (r : Auction) → isClosed (r .phase) ≡ false → Formed r → Formed (cleared r)
 unfolding cleared
 cleared-formed r o f =
-    without-reports (cleared r) refl refl refl (f .some-item) (f .max-items) (f .some-bidder) (f .max-bidders) (f .price-max) (f .unused-price)
-    (rounds-of (r .phase) (cleared r) r refl refl refl refl ∙ f .rounds) (not-closed (r .phase) (cleared r) o)
+    without-reports (cleared r) refl refl refl (f .some-item) (f .max-items) (f .some-bidder) (f .max-bidders) (f .price-max) (f .unused-price) (f .floor-le)
+    (rounds-of (r .phase) (cleared r) r refl refl refl refl refl ∙ f .rounds) (not-closed (r .phase) (cleared r) o)
 
 -- ---- report
 
@@ -161,10 +165,13 @@ module _ (r : Auction) (long : length (r .sets) ≡ 64) (f : Formed r) (b : ℕ)
         max-bidders = f .max-bidders;
         price-max = f .price-max;
         unused-price = f .unused-price;
+        floor-max = f .floor-max;
+        floor-le = f .floor-le;
+        unused-floor = f .unused-floor;
         unused-place = past;
         within = λ k l. within k l (ℕ-discrete (suc k) b);
         reported-fit = λ k l h. fits k l (omega arith) (ℕ-discrete (suc k) b) h;
         other-empty = λ k l h. others k l (omega arith) (ℕ-discrete (suc k) b) h;
-        rounds = rounds-of (r .phase) next r refl refl refl refl ∙ f .rounds;
+        rounds = rounds-of (r .phase) next r refl refl refl refl refl ∙ f .rounds;
         at-close = not-closed (r .phase) next o;
       }

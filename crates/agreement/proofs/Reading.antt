@@ -18,7 +18,7 @@ use Rattle.rule.specs.Closing.{assignmentAt, Closing}
 use Rattle.rule.proofs.Limits.{Limits}
 use Rattle.rule.proofs.Refusal.{passed, first-nil, none as first-none}
 use Rattle.lines.specs.Lines.{closingSheet, closingLength, writtenTo}
-use Rattle.live.specs.Auction.{reportsOf, aboveZero, wellFormed}
+use Rattle.live.specs.Auction.{reportsOf, itemsAbove, wellFormed}
 use Rattle.live.specs.Calls.{isClosed}
 use Rattle.live.specs.Reading.{readNumber, namesOf, sheetOf, readBytes}
 use Rattle.agreement.specs.Calls.{reading, shown, call}
@@ -58,9 +58,9 @@ module _ (s : Sheet) (lim : Limits s) (c : Closing s) (t : Machine) (g : Good s 
     unfolding namesOf
     names-are =
         let items : standsFor s t .items ≡ m = unfold standsFor in refl in
-        ap (λ (x : ℕ). assignment x (aboveZero (standsFor s t)) (reportsOf (standsFor s t))) items
+        ap (λ (x : ℕ). assignment x (itemsAbove (standsFor s t)) (reportsOf (standsFor s t))) items
         ∙ ap (λ (x : ℕ). assignment m x (reportsOf (standsFor s t))) (above-is s t lim)
-        ∙ ap (assignment m (aboveFloors m (at s t .prices))) (reports-is s t lim ∙ said-demands s t (g .at-close done .0))
+        ∙ ap (assignment m (aboveFloors m (s .floors) (at s t .prices))) (reports-is s t lim ∙ said-demands s t (g .at-close done .0))
         ∙ ap (λ (q : State). assignmentAt s (q .prices)) at-is
 
     -- a closed record's sheet is the sealed closing sheet

@@ -61,7 +61,7 @@ module _ (s : Sheet) (t : Machine) (g : Good s t) (w : wellFormed (standsFor s t
 
   clear-record : cleared (standsFor s t) ≡ standsFor s (without t)
   unfolding cleared standsFor at phase
-  clear-record = by-parts (cleared (standsFor s t)) (standsFor s (without t)) refl refl refl no-sets no-nulls no-reported refl refl refl
+  clear-record = by-parts (cleared (standsFor s t)) (standsFor s (without t)) refl refl refl refl no-sets no-nulls no-reported refl refl refl
 
   pub clear-follows : Follows s (call (standsFor s t) clearing) (machine s t clearing)
   unfolding call clear machine machineClear
@@ -149,7 +149,7 @@ module _ (s : Sheet) (t : Machine) (g : Good s t) (w : wellFormed (standsFor s t
     report-record : Accepted → withReport (standsFor s t) b d ≡ standsFor s (with t b d)
     unfolding withReport standsFor at phase
     report-record a =
-        by-parts (withReport (standsFor s t) b d) (standsFor s (with t b d)) refl refl refl (report-sets (a .some)) (report-nulls (a .first-time)) report-reported refl refl refl
+        by-parts (withReport (standsFor s t) b d) (standsFor s (with t b d)) refl refl refl refl (report-sets (a .some)) (report-nulls (a .first-time)) report-reported refl refl refl
 
     pub report-follows : Follows s (call (standsFor s t) (reporting b d)) (machine s t (reporting b d))
     unfolding call report machine machineReport

@@ -5,6 +5,7 @@ use mathlib.Core.Bool.{Bool, true, false}
 use mathlib.Core.List.{List}
 use native.Mathlib.Omega.{arith}
 use native.Mathlib.Decide.{decLe, ℕ-discrete}
+use lib.ListN.{length}
 use Rattle.sets.specs.Bit.{has}
 use Rattle.sets.specs.Sum.{sum}
 use Rattle.sets.proofs.Counting.{not-both}
@@ -15,7 +16,7 @@ use Rattle.rule.specs.Demand.{Demand}
 use Rattle.rule.specs.Excess.{excessDemand, excessSupply}
 use Rattle.rule.specs.Round.{Phase, rising, falling, raised, lowered, closed, round, raise, lower}
 use Rattle.rule.proofs.Limits.{amount-null, amount-beyond}
-use Rattle.rule.proofs.Moves.{raise-length, lower-length, raised-in, raised-out, raised-le, lowered-in, lowered-le, some-item}
+use Rattle.rule.proofs.Moves.{raise-length, lower-length, raised-in, raised-out, raised-le, lowered-in, lowered-out, lowered-le, some-item}
 use Rattle.rule.proofs.Path.{round-raised, round-lowered, round-closed, round-turned, round-falling}
 
 -- ---- the round
@@ -71,6 +72,26 @@ module _ (m : ℕ) (few : m ≤ 32) (p : List ℕ) (x : ℕ) (small : x < 2 ^ m)
       go : Dec (32 ≤ k) → amount (lower 32 p x) (suc k) ≤ 4095
       go (yes l) = omega (arith, amount-beyond 32 (lower 32 p x) (lower-length 32 p x) (suc k) (omega arith))
       go (no l) = omega (arith, lowered-le 32 p x (suc k) (omega arith), range (suc k))
+
+  -- no price comes below its floor
+  module _ (floors : List ℕ) (long : length floors ≡ 32) (low : (i : ℕ) → amount floors i ≤ amount p i) where
+    pub raise-floors : (i : ℕ) → amount floors i ≤ amount (raise 32 p x) i
+    raise-floors i = go (decLe i 32)
+      where
+        go : Dec (i ≤ 32) → amount floors i ≤ amount (raise 32 p x) i
+        go (yes l) = omega (arith, low i, raised-le 32 p x i (omega arith))
+        go (no l) = omega (arith, amount-beyond 32 floors long i (omega arith))
+
+    pub lower-floors : ((i : ℕ) → i < suc m → has x i ≡ true → amount floors i < amount p i) → (i : ℕ) → amount floors i ≤ amount (lower 32 p x) i
+    lower-floors above i = go (decLe i 32) (decLe i m) (has x i) refl
+      where
+        go : Dec (i ≤ 32) → Dec (i ≤ m) → (b : Bool) → has x i ≡ b → amount floors i ≤ amount (lower 32 p x) i
+        go (no l) d b e = omega (arith, amount-beyond 32 floors long i (omega arith))
+        go (yes l) d false e = omega (arith, low i, lowered-out 32 p x i (omega arith) e)
+        go (yes l) (no h) true e = absurd (not-both (has x i) e (has-past m x i small (omega arith)))
+        go (yes l) (yes h) true e =
+            let more = above i (omega arith) e in
+            omega (arith, more, lowered-in 32 p x i (omega arith) e (omega arith))
 
   -- a raise adds at least 1 to the sum, a lowering of prices above 0 takes at least 1 off
   module _ (some : x ≡ 0 → ⊥) where

@@ -5,6 +5,7 @@ use mathlib.Core.Bool.{Bool, true, false, _&&_, not}
 use mathlib.Core.List.{List}
 use native.Mathlib.Omega.{arith}
 use lib.Dec.{eqb, leb}
+use lib.ListN.{length}
 use borrow.Author.Tests.{eqb-true, leb-true, le-leb, eq-eqb}
 use borrow.Author.Tests.{not-false as not-false-is}
 use Rattle.sets.specs.Bit.{has}
@@ -13,14 +14,14 @@ use Rattle.sets.proofs.Counting.{and-left, and-right, and-both, any-make, not-b
 use Rattle.rule.specs.Sheet.{amount, priceSum}
 use Rattle.rule.specs.Round.{rising, falling, Round, raised, lowered, closed}
 use Rattle.rule.specs.Round.{Phase as RulePhase}
-use Rattle.rule.proofs.Largest.{demand-bound, supply-bound, supply-positive}
-use Rattle.live.specs.Auction.{place, hasReported, missing, reportsOf, aboveZero, risingSet, fallingSet, roundsFit, closeFits}
+use Rattle.rule.proofs.Largest.{demand-bound, supply-bound, supply-above}
+use Rattle.live.specs.Auction.{place, hasReported, missing, reportsOf, itemsAbove, risingSet, fallingSet, roundsFit, closeFits}
 use Rattle.live.specs.Calls.{isClosed, isFalling, isRising, atTop, ruled, roundBy, settled}
 use Rattle.live.specs.declared.Auction.{Auction}
 use Rattle.live.specs.declared.Phase.{Phase}
 use Rattle.live.specs.declared.Phase.the-variants.{Rising, Falling, Closed}
 use Rattle.live.proofs.Formed.{Formed}
-use Rattle.agreement.proofs.Rounds.{Takes, raises, lowers, closes, takes, raise-past, lower-past, raise-range, lower-range, raise-more, lower-less, sum-max}
+use Rattle.agreement.proofs.Rounds.{Takes, raises, lowers, closes, takes, raise-floors, lower-floors, raise-past, lower-past, raise-range, lower-range, raise-more, lower-less, sum-max}
 use Rattle.agreement.proofs.Keeps.{without-reports, not-closed}
 
 -- ---- phases
@@ -41,11 +42,14 @@ module _ (r : Auction) where
   abbrev total : ℕ
   total = priceSum (r .items) (r .prices)
 
-  rising-rounds : roundsFit Rising r ≡ true → (r .lowered ≡ 0) × (r .raised ≤ total)
+  abbrev low : ℕ
+  low = priceSum (r .items) (r .floors)
+
+  rising-rounds : roundsFit Rising r ≡ true → (r .lowered ≡ 0) × (r .raised + low ≤ total)
   unfolding roundsFit
   rising-rounds e = (
-    eqb-true (r .lowered) 0 (and-left (eqb (r .lowered) 0) (leb (r .raised) total) e),
-    leb-true (r .raised) total (and-right (eqb (r .lowered) 0) (leb (r .raised) total) e),
+    eqb-true (r .lowered) 0 (and-left (eqb (r .lowered) 0) (leb (r .raised + low) total) e),
+    leb-true (r .raised + low) total (and-right (eqb (r .lowered) 0) (leb (r .raised + low) total) e),
   )
 
   falling-rounds : roundsFit Falling r ≡ true → (r .raised ≤ 4095 * r .items) × (total + r .lowered ≤ 4095 * r .items)
@@ -62,9 +66,9 @@ module _ (r : Auction) where
   open-rounds Falling o e top = falling-rounds e
   open-rounds Closed o e top = absurd (not-both true refl o)
 
-pub rising-make : (r : Auction) → r .lowered ≡ 0 → r .raised ≤ priceSum (r .items) (r .prices) → roundsFit Rising r ≡ true
+pub rising-make : (r : Auction) → r .lowered ≡ 0 → r .raised + priceSum (r .items) (r .floors) ≤ priceSum (r .items) (r .prices) → roundsFit Rising r ≡ true
 unfolding roundsFit
-rising-make r a b = and-both (eqb (r .lowered) 0) (leb (r .raised) (total r)) (eq-eqb (r .lowered) 0 a) (le-leb (r .raised) (total r) b)
+rising-make r a b = and-both (eqb (r .lowered) 0) (leb (r .raised + low r) (total r)) (eq-eqb (r .lowered) 0 a) (le-leb (r .raised + low r) (total r) b)
 
 -- falling or closed
 late-make : (ph : Phase) (r : Auction) → isRising ph ≡ false → r .raised ≤ 4095 * r .items → priceSum (r .items) (r .prices) + r .lowered ≤ 4095 * r .items → roundsFit ph r ≡ true
@@ -90,7 +94,7 @@ top-free m p x e k l h q =
 
 -- ---- the three rounds
 
-module _ (r : Auction) (f : Formed r) (before : isClosed (r .phase) ≡ false) where
+module _ (r : Auction) (f : Formed r) (floored : length (r .floors) ≡ 32) (before : isClosed (r .phase) ≡ false) where
   abbrev m : ℕ
   m = r .items
 
@@ -103,21 +107,23 @@ module _ (r : Auction) (f : Formed r) (before : isClosed (r .phase) ≡ false) w
       without-reports (settled r (raised x)) refl refl refl (f .some-item) (f .max-items) (f .some-bidder) (f .max-bidders)
       (raise-range m few (r .prices) x small (f .price-max) (top-free m (r .prices) x top))
       (λ k l h. raise-past m few (r .prices) x small k l h ∙ f .unused-price k l h)
+      (raise-floors m few (r .prices) x small (r .floors) floored (f .floor-le))
       (rising-make (settled r (raised x)) (w .0) (omega (arith, w .1, more))) (not-closed Rising (settled r (raised x)) refl)
 
-  lowered-formed : (x : ℕ) → x < 2 ^ m → (x ≡ 0 → ⊥) → ((i : ℕ) → i < suc m → has x i ≡ true → 0 < amount (r .prices) i) → Formed (settled r (lowered x))
+  lowered-formed : (x : ℕ) → x < 2 ^ m → (x ≡ 0 → ⊥) → ((i : ℕ) → i < suc m → has x i ≡ true → amount (r .floors) i < amount (r .prices) i) → Formed (settled r (lowered x))
   unfolding settled
-  lowered-formed x small ne pos =
+  lowered-formed x small ne above =
       let few = f .max-items in
       let w = open-rounds r (r .phase) before (f .rounds) (sum-max m (r .prices) (f .price-max)) in
-      let less = lower-less m few (r .prices) x small ne pos in
+      let less = lower-less m few (r .prices) x small ne (λ i l h. let more = above i l h in omega arith) in
       without-reports (settled r (lowered x)) refl refl refl (f .some-item) (f .max-items) (f .some-bidder) (f .max-bidders)
       (lower-range m few (r .prices) x small (f .price-max))
       (λ k l h. lower-past m few (r .prices) x small k l (f .unused-price k l h))
+      (lower-floors m few (r .prices) x small (r .floors) floored (f .floor-le) above)
       (late-make Falling (settled r (lowered x)) refl (w .0) (omega (arith, w .1, less))) (not-closed Falling (settled r (lowered x)) refl)
 
   closed-fits : missing r ≡ false → risingSet r ≡ 0 → fallingSet r ≡ 0 → closeFits Closed (settled r closed) ≡ true
-  unfolding closeFits settled missing hasReported risingSet fallingSet reportsOf aboveZero
+  unfolding closeFits settled missing hasReported risingSet fallingSet reportsOf itemsAbove
   closed-fits a b c =
       and-both (not (missing r) && eqb (risingSet r) 0) (eqb (fallingSet r) 0) (and-both (not (missing r)) (eqb (risingSet r) 0) (ap not a) (eq-eqb (risingSet r) 0 b))
       (eq-eqb (fallingSet r) 0 c)
@@ -133,6 +139,9 @@ module _ (r : Auction) (f : Formed r) (before : isClosed (r .phase) ≡ false) w
         max-bidders = f .max-bidders;
         price-max = f .price-max;
         unused-price = f .unused-price;
+        floor-max = f .floor-max;
+        floor-le = f .floor-le;
+        unused-floor = f .unused-floor;
         unused-place = f .unused-place;
         within = f .within;
         reported-fit = f .reported-fit;
@@ -145,7 +154,7 @@ module _ (r : Auction) (f : Formed r) (before : isClosed (r .phase) ≡ false) w
 
   pub settled-formed : missing r ≡ false → isFalling (r .phase) && not (eqb (risingSet r) 0) ≡ false → isRising (r .phase) && atTop m (r .prices) (risingSet r) ≡ false
       → Formed (settled r (roundBy r))
-  settled-formed full no-sixteen no-seventeen = go (takes m (aboveZero r) (reportsOf r) (ruled (r .phase)))
+  settled-formed full no-sixteen no-seventeen = go (takes m (itemsAbove r) (reportsOf r) (ruled (r .phase)))
     where
       top : r .phase ≡ Rising → atTop m (r .prices) (risingSet r) ≡ false
       top q = subst (λ (ph : Phase). isRising ph && atTop m (r .prices) (risingSet r) ≡ false) q no-seventeen
@@ -160,7 +169,7 @@ module _ (r : Auction) (f : Formed r) (before : isClosed (r .phase) ≡ false) w
       empty rising q h = h q
       empty falling q h = empty-falling (λ e. let z : _≡_ {A = ℕ} 0 1 = cc in omega arith)
 
-      go : Takes m (aboveZero r) (reportsOf r) (ruled (r .phase)) → Formed (settled r (roundBy r))
+      go : Takes m (itemsAbove r) (reportsOf r) (ruled (r .phase)) → Formed (settled r (roundBy r))
       go (raises q ne e) =
           let e′ : roundBy r ≡ raised (risingSet r) = unfold roundBy risingSet in e in
           subst (λ (x : Round). Formed (settled r x)) (sym e′)
@@ -168,8 +177,8 @@ module _ (r : Auction) (f : Formed r) (before : isClosed (r .phase) ≡ false) w
       go (lowers h ne e) =
           let e′ : roundBy r ≡ lowered (fallingSet r) = unfold roundBy fallingSet in e in
           subst (λ (x : Round). Formed (settled r x)) (sym e′)
-          (lowered-formed (fallingSet r) (unfold fallingSet in supply-bound m (aboveZero r) (reportsOf r)) (unfold fallingSet in ne)
-          (unfold fallingSet aboveZero in supply-positive m (r .prices) (reportsOf r)))
+          (lowered-formed (fallingSet r) (unfold fallingSet in supply-bound m (itemsAbove r) (reportsOf r)) (unfold fallingSet in ne)
+          (unfold fallingSet itemsAbove in supply-above m (r .floors) (r .prices) (reportsOf r)))
       go (closes h z e) =
           let e′ : roundBy r ≡ closed = unfold roundBy in e in
           subst (λ (x : Round). Formed (settled r x)) (sym e′)

@@ -1,6 +1,6 @@
 -- What the record that stands for a machine's state shows. Assumes nothing.
 use Prim.Native.Nat.{ℕ, zero, suc, _-_, _≤_, _<_}
-use mathlib.Core.Path.{_≡_, refl, sym, ap, _∙_, subst}
+use mathlib.Core.Path.{_≡_, refl, sym, ap, ap₂, _∙_, subst}
 use mathlib.Core.Bool.{Bool, true, false, _&&_, not}
 use native.Mathlib.Omega.{arith}
 use native.Mathlib.Nat.{zero-add}
@@ -21,7 +21,7 @@ use Rattle.rule.proofs.AtPrices.{demands-length}
 use Rattle.rule.proofs.Limits.{Limits}
 use Rattle.round.specs.Reports.{reports}
 use Rattle.round.proofs.Reporting.{tabulate-nth}
-use Rattle.live.specs.Auction.{hasReported, missing, reportsOf, aboveZero, risingSet}
+use Rattle.live.specs.Auction.{hasReported, missing, reportsOf, itemsAbove, risingSet}
 use Rattle.live.specs.Calls.{isClosed, atTop}
 use Rattle.agreement.specs.Machine.{Standing, none, stands, Machine, at, phaseOf, phase, doesStand, said, saidAll, isMissing, sameBool, sameDemand, standsAs, demandsStand}
 use Rattle.agreement.specs.Agreement.{standsFor}
@@ -106,6 +106,10 @@ module _ (s : Sheet) (t : Machine) where
   unfolding amount standsFor
   price-is k l = places-at 32 (at s t .prices) k l
 
+  floor-is : (k : ℕ) → k < 32 → amount (standsFor s t .floors) (suc k) ≡ amount (s .floors) (suc k)
+  unfolding amount standsFor
+  floor-is k l = places-at 32 (s .floors) k l
+
   module _ (lim : Limits s) where
     pub reports-is : reportsOf (standsFor s t) ≡ saidAll s t
     unfolding reportsOf reports standsFor saidAll
@@ -121,12 +125,12 @@ module _ (s : Sheet) (t : Machine) where
         let max = lim .max-bidders in
         any-cong n (λ k. not (hasReported (standsFor s t) (suc k))) (λ k. not (doesStand (t .standing (suc k)))) (λ k l. ap not (reported-at k (omega (arith, max, l))))
 
-    pub above-is : aboveZero (standsFor s t) ≡ aboveFloors (s .items) (at s t .prices)
-    unfolding aboveZero standsFor aboveFloors
+    pub above-is : itemsAbove (standsFor s t) ≡ aboveFloors (s .items) (s .floors) (at s t .prices)
+    unfolding itemsAbove standsFor aboveFloors
     above-is =
         let max = lim .max-items in
-        setOf-cong (s .items) (λ i. ltb 0 (amount (standsFor s t .prices) i)) (λ i. ltb 0 (amount (at s t .prices) i))
-        (λ k l. ap (ltb 0) (price-is k (omega (arith, max, l))))
+        setOf-cong (s .items) (λ i. ltb (amount (standsFor s t .floors) i) (amount (standsFor s t .prices) i)) (λ i. ltb (amount (s .floors) i) (amount (at s t .prices) i))
+        (λ k l. ap₂ ltb (floor-is k (omega (arith, max, l))) (price-is k (omega (arith, max, l))))
 
     pub rising-is : risingSet (standsFor s t) ≡ excessDemand (s .items) (saidAll s t)
     unfolding risingSet standsFor
