@@ -1,16 +1,17 @@
--- A bidder's line applied to a sheet of two items and three bidders, by computation. The checker takes modules by name, and this one comes first: the first error
+-- A bidder's line applied to a sheet of two items and three bidders, and the numbers to smaller ones, by computation. The checker takes modules by name, and this one comes first: the first error
 -- that a wrong definition meets stands here. Assumes nothing.
 use Prim.Native.Nat.{ℕ}
 use mathlib.Core.Path.{_≡_, refl}
 use mathlib.Core.List.{List, [], _∷_}
 use Rattle.sets.specs.Count.{anyBelow}
-use Rattle.rule.specs.Refusal.{first, badItems, badBidders, badLength, badBidder}
+use Rattle.rule.specs.Refusal.{first, badItems, badBidders, badLength, anyOver, anyUnder, badFloors, badBidder}
 use Rattle.bids.specs.Lent.{lineOf}
+use Rattle.bids.specs.Refusal.{sealedAboveRefusal}
 use Rattle.bids.specs.Line.{hasRow, rowShown, rowStart, lineRefusal, shown, lineShown, lineStart}
 
 -- the definitions that the cases compute with
 computing : Unit {0}
-unfolding anyBelow first badItems badBidders badLength badBidder lineOf hasRow rowShown rowStart lineRefusal shown lineShown lineStart
+unfolding anyBelow first badItems badBidders badLength anyOver anyUnder badFloors badBidder sealedAboveRefusal lineOf hasRow rowShown rowStart lineRefusal shown lineShown lineStart
 computing = tt
 
 -- the bids of bidders 1, 2 and 3
@@ -31,3 +32,18 @@ fourth = (refl, refl, refl)
 pub last-row : (rowShown 2 2 six ≡ 31 ∷ 32 ∷ []) × (rowStart 2 2 six ≡ 4) × (rowShown 2 3 six ≡ []) × (rowStart 2 3 six ≡ 0)
 unfolding computing
 last-row = (refl, refl, refl, refl)
+
+-- ---- what turns a sheet of one item and one bidder down
+
+abbrev refusedBy : (start floors bids : List ℕ) → ℕ
+refusedBy start floors bids = sealedAboveRefusal 1 1 start floors bids
+
+-- a starting price of 4,096 with a floor of 4,097 and a bid of 4,096 is 4; a floor of 4,096, and a starting price below its floor, are 18 before a bid is 5
+pub four-first : (refusedBy (4096 ∷ []) (4097 ∷ []) (4096 ∷ []) ≡ 4) × (refusedBy (4095 ∷ []) (4096 ∷ []) (4096 ∷ []) ≡ 18) × (refusedBy (1 ∷ []) (2 ∷ []) (4096 ∷ []) ≡ 18)
+unfolding computing
+four-first = (refl, refl, refl)
+
+-- a floor too many is 3 before that, and a floor at the starting price turns nothing down
+pub exact-floors : (refusedBy (4096 ∷ []) (0 ∷ 0 ∷ []) (4096 ∷ []) ≡ 3) × (refusedBy (4095 ∷ []) (4095 ∷ []) (1 ∷ []) ≡ 0)
+unfolding computing
+exact-floors = (refl, refl)

@@ -9,19 +9,20 @@ use Rattle.sets.specs.Count.{allBelow, anyBelow, count}
 use Rattle.sets.specs.Bit.{bit, isSet, has, setOf, each, any, size}
 use Rattle.sets.specs.Largest.{largestBelow, largest}
 use Rattle.sets.specs.Lists.{tabulate}
+use Rattle.sets.specs.Sum.{sum}
 use Rattle.rule.specs.Sheet.{amount, Sheet}
 use Rattle.rule.specs.Demand.{surplusAtLeast, best, Demand, demand, demands, wants, nth}
 use Rattle.rule.specs.Excess.{bidders, overdemanded, weaklyUnderdemanded, crowded, inExcess, inPositiveExcess, excessDemand, positiveExcessDemand, excessSupply, aboveFloors}
 use Rattle.rule.specs.Round.{raise, lower, raised, lowered, closed, roundFalling, round, move, roundAt, after, opening, path, mostRounds}
-use Rattle.rule.specs.Assignment.{option, holders, isAssignment, fits, Ahead, over-null}
-use Rattle.rule.specs.Equilibrium.{Below, greatest}
+use Rattle.rule.specs.Assignment.{option, holders, isAssignment, fits, Ahead, over-null, floorTotal}
+use Rattle.rule.specs.Equilibrium.{Below, Equilibrium, greatest}
 use Rattle.rule.specs.Closing.{roundOf, largestRise}
 use Rattle.rule.specs.Reasons.{biddersWith, reasonOf, reasonAt, Justified}
 use Rattle.rule.specs.Former.{formerDemand, formerDemands, formerRoundAt, formerAfter, formerPath, FormerEquilibrium}
 
 -- the definitions that the cases compute with
 computing : Unit {0}
-unfolding allBelow anyBelow count bit isSet has setOf each any size largestBelow largest tabulate amount surplusAtLeast best demand demands wants nth bidders overdemanded weaklyUnderdemanded crowded inExcess inPositiveExcess excessDemand positiveExcessDemand excessSupply aboveFloors raise lower roundFalling round move roundAt after opening path mostRounds option holders isAssignment fits greatest biddersWith reasonOf reasonAt formerDemand formerDemands formerRoundAt formerAfter formerPath
+unfolding allBelow anyBelow count bit isSet has setOf each any size largestBelow largest tabulate amount surplusAtLeast best demand demands wants nth bidders overdemanded weaklyUnderdemanded crowded inExcess inPositiveExcess excessDemand positiveExcessDemand excessSupply aboveFloors raise lower roundFalling round move roundAt after opening path mostRounds option holders isAssignment fits greatest biddersWith reasonOf reasonAt formerDemand formerDemands formerRoundAt formerAfter formerPath sum floorTotal
 computing = tt
 
 -- a demand of these items alone, and one of null beside them
@@ -175,6 +176,16 @@ unfolding Below amount
 below zero = omega arith
 below (suc zero) = omega arith
 below (suc (suc k)) = omega arith
+
+-- one item with floor 5 and one bid of 3: at 4 both sets are empty and nobody has the item, but prices below the floors do not balance
+pub not-below : Equilibrium 1 (5 ∷ []) ((3 ∷ []) ∷ []) (4 ∷ []) → ⊥
+unfolding Below amount
+not-below e = omega (arith, e .from-floors 1)
+
+-- the floors of a bidder who has item 2, and of one who has null
+pub floor-total : floorTotal (1 ∷ 5 ∷ []) (2 ∷ 0 ∷ []) ≡ 5
+unfolding computing
+floor-total = refl
 
 -- one item at 1, two bidders who bid 2: its one round raised is the rise from 1 to 2
 abbrev pub two : Sheet
