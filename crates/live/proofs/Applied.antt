@@ -25,7 +25,6 @@ use Rattle.live.specs.Calls.{openAboveNumber, zeros, opened, unopened, o
 use Rattle.live.specs.declared.Auction.{Auction}
 use Rattle.live.specs.declared.Phase.{Phase}
 use Rattle.live.specs.declared.Phase.the-variants.{Rising, Falling, Closed}
-use Rattle.live.specs.declared.Reply.{Reply}
 
 -- the definitions that the cases compute with
 computing : Unit {0}

@@ -2,8 +2,8 @@
 use mathlib.Core.Path.{_≡_, ap, ap₂, sym, _∙_}
 use mathlib.Core.Bool.{Bool, true, false}
 use mathlib.Core.List.{List, [], _∷_}
-use Prim.Native.Nat.{ℕ, zero, suc, _≤_}
-use lib.ListN.{length, getD, replicate, length-replicate}
+use Prim.Native.Nat.{ℕ, zero, suc}
+use lib.ListN.{length, replicate, length-replicate}
 use Rattle.sets.specs.Lists.{places}
 use Rattle.rule.specs.Sheet.{amount}
 use Rattle.rule.specs.Refusal.{on, first, badItems, badBidders, badLength, anyOver, anyUnder, badFloors}

@@ -11,10 +11,8 @@ use borrow.Author.Tests.{le-leb, lt-leb, lt-ltb, le-ltb}
 use Rattle.sets.specs.Lists.{places}
 use Rattle.sets.proofs.Counting.{lt-or-le}
 use Rattle.sets.proofs.Lists.{places-at}
-use Rattle.rule.specs.Excess.{aboveFloors}
 use Rattle.rule.specs.Refusal.{on, first}
 use Rattle.rule.proofs.Refusal.{passed, given}
-use Rattle.round.proofs.Narrowing.{aboveFloors-lt}
 use Rattle.assignment.specs.Assigned.{assigned}
 use Rattle.assignment.proofs.Unfit.{assigned-is}
 use Rattle.assignment.proofs.Narrowing.{assignment-narrow}
@@ -26,17 +24,17 @@ use Rattle.live.specs.Reading.{tooFew, namesOf, sheetOf, readNumber, rea
 use Rattle.live.specs.Tidy.{Tidy}
 use Rattle.live.specs.declared.Auction.{Auction}
 use Rattle.live.proofs.Formed.{items-range, bidders-range}
-use Rattle.live.proofs.Sets.{Sets, above-here, reported}
+use Rattle.live.proofs.Sets.{Sets, above-lt, reported}
 
 module _ (r : Auction) (t : Tidy r) where
   -- ---- the names
 
-  pub names-here : Sets (r .sets) → length (r .prices) ≡ 32 → (above : ℕ) → above ≡ aboveFloors 32 (r .floors) (r .prices) → assigned (r .sets) (r .nulls) above (r .bidders) ≡ places 64 (namesOf r)
+  pub names-here : Sets (r .sets) → (above : ℕ) → above ≡ itemsAbove r → assigned (r .sets) (r .nulls) above (r .bidders) ≡ places 64 (namesOf r)
   unfolding namesOf reportsOf
-  names-here s e above q =
-      ap (λ (x : ℕ). assigned (r .sets) (r .nulls) x (r .bidders)) (q ∙ above-here r t e)
+  names-here s above q =
+      ap (λ (x : ℕ). assigned (r .sets) (r .nulls) x (r .bidders)) q
       ∙ sym (assigned-is (r .sets) (r .nulls) (itemsAbove r) (r .bidders) (bidders-range r (t .counts) .1))
-      ∙ ap (places 64) (assignment-narrow (r .items) (r .bidders) (r .sets) (reported r t s) (r .nulls) (itemsAbove r) (unfold itemsAbove in aboveFloors-lt (r .items) (r .floors) (r .prices)))
+      ∙ ap (places 64) (assignment-narrow (r .items) (r .bidders) (r .sets) (reported r t s) (r .nulls) (itemsAbove r) (above-lt r))
 
   -- ---- the sheet
 

@@ -31,6 +31,11 @@ pub record Sets (l : List ℕ) : Type 0 where
   pub long : length l ≡ 64
   pub fit : (b : ℕ) → getD l b 0 < 2 ^ 32
 
+-- the items of price above the floor are items
+pub above-lt : (r : Auction) → itemsAbove r < 2 ^ r .items
+unfolding itemsAbove
+above-lt r = aboveFloors-lt (r .items) (r .floors) (r .prices)
+
 module _ (r : Auction) (t : Tidy r) where
   -- no place has an item beyond the count
   not-beyond : (b : ℕ) → b < 64 → (k : ℕ) → r .items ≤ k → k < 32 → has (getD (r .sets) b 0) (suc k) ≡ false
@@ -79,11 +84,11 @@ module _ (r : Auction) (t : Tidy r) where
       go k l (inl q) = unfold amount in past-items-use r (t .prices) k q l
       go k l (inr q) = List·getD-eq-default (r .prices) 0 {n = k} (omega (arith, e, q))
 
-  pub falling-here : Sets (r .sets) → length (r .prices) ≡ 32 → (above : ℕ) → above ≡ aboveFloors 32 (r .floors) (r .prices) → excessSupply 32 above (reports 64 (r .sets) (r .nulls)) ≡ fallingSet r
+  pub falling-here : Sets (r .sets) → (above : ℕ) → above ≡ itemsAbove r → excessSupply 32 above (reports 64 (r .sets) (r .nulls)) ≡ fallingSet r
   unfolding fallingSet reportsOf
-  falling-here s e above q =
-      ap (λ (x : ℕ). excessSupply 32 x (reports 64 (r .sets) (r .nulls))) (q ∙ above-here e)
-      ∙ falling-narrow (r .items) (r .bidders) (r .sets) (reported s) (r .nulls) (itemsAbove r) (unfold itemsAbove in aboveFloors-lt (r .items) (r .floors) (r .prices))
+  falling-here s above q =
+      ap (λ (x : ℕ). excessSupply 32 x (reports 64 (r .sets) (r .nulls))) q
+      ∙ falling-narrow (r .items) (r .bidders) (r .sets) (reported s) (r .nulls) (itemsAbove r) (above-lt r)
 
 -- prices within 4,095 have room for one more
 toNat-one : (b : Bool) → toNat b ≤ 1

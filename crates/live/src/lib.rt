@@ -9,7 +9,7 @@ ghost use Rattle.sets.specs.Lists.{places};
 ghost use Rattle.rule.specs.Round.{raised, lowered, closed};
 ghost use Rattle.lines.specs.Lines.{writtenTo};
 ghost use Rattle.reports.specs.Report.{saying};
-ghost use Rattle.live.specs.Auction.{pricesFit, risingSet, fallingSet};
+ghost use Rattle.live.specs.Auction.{pricesFit, itemsAbove, risingSet, fallingSet};
 ghost use Rattle.live.specs.Calls.{zeros, unopened, openAuction, openAbove, cleared, withReport, isClosed, reportNumber, report, clearNumber, clear, atTop, settled, endingOf, endAnswer, endNext};
 ghost use Rattle.live.specs.declared.Phase.the-variants.{Rising, Falling};
 ghost use Rattle.live.specs.declared.Kind.the-variants.{Raised, Lowered};
@@ -168,15 +168,23 @@ impl Auction {
         round::rising(&sets, self.nulls)
     }
 
+    // the items of price above the floor
+    fn items_above(self) -> u32
+        requires { ⌜ Tidy self ⌝ }
+        ensures { λ r. ⌜ r ≡ itemsAbove self ⌝ }
+    {
+        let floors = self.floors;
+        let prices = self.prices;
+        round::above_floors(&floors, &prices)
+    }
+
     // the falling set of the reports
     fn falling_set(self) -> u32
         requires { ⌜ Tidy self ⌝ }
         ensures { λ r. ⌜ r ≡ fallingSet self ⌝ }
     {
         let sets = self.sets;
-        let floors = self.floors;
-        let prices = self.prices;
-        round::falling(&sets, round::above_floors(&floors, &prices))
+        round::falling(&sets, self.items_above())
     }
 
     // the phase is closed
@@ -428,10 +436,7 @@ impl Auction {
         ensures { λ r. ⌜ r ≡ places 64 (namesOf self) ⌝ }
     {
         let sets = self.sets;
-        let floors = self.floors;
-        let prices = self.prices;
-        let above = round::above_floors(&floors, &prices);
-        assignment::first(&sets, self.nulls, above, self.bidders)
+        assignment::first(&sets, self.nulls, self.items_above(), self.bidders)
     }
 
     // writes the closing sheet's three lines to the front of the bytes, unless they are too few

@@ -1,5 +1,5 @@
 -- `live::open` meets its contract: the floors that it lends are 0. Assumes nothing.
-use Prim.Native.Nat.{ℕ, _<_}
+use Prim.Native.Nat.{ℕ, _≤_, _<_}
 use mathlib.Core.Path.{_≡_, sym, ap, _∙_}
 use mathlib.Core.Bool.{true}
 use mathlib.Core.List.{List}
@@ -19,6 +19,10 @@ too-many : (m : ℕ) → 32 < m → badItems m ≡ true
 unfolding badItems
 too-many m l = over-range 32 m (omega arith) l
 
+-- of 32 places so many are lent
+lent : (x m : ℕ) → m ≤ 32 → m ≡ length (take m (replicate {A = ℕ} 32 x))
+lent x m l = sym (length-take-le m (replicate {A = ℕ} 32 x) (omega (arith, length-replicate {A = ℕ} 32 x, l)))
+
 refused-requires : tie.Need-refused-requires
 refused-requires c κs = search needs
 
@@ -31,7 +35,7 @@ array-share-prefix-floors : tie.Need-array-share-prefix-floors
 array-share-prefix-floors c = search needs
 
 slice-aggregate-open-above : tie.Need-slice-aggregate-open-above
-slice-aggregate-open-above c = sym (length-take-le (c .before .before .before .args .items) (replicate {A = ℕ} 32 0) (omega (arith, length-replicate {A = ℕ} 32 0, c .before .if1 .left)))
+slice-aggregate-open-above c = lent _ (c .before .before .before .args .items) (c .before .if1 .left)
 
 open-above-requires : tie.Need-open-above-requires
 open-above-requires c κs = search needs

@@ -9,20 +9,19 @@ use Rattle.live.proofs.Sets.{falling-here}
 use Rattle.live.proofs.Auction.falling_set.Statement.{statement}
 use Rattle.live.proofs.Auction.falling_set.Tie as tie
 
-above-floors-requires : tie.Need-above-floors-requires
-above-floors-requires c κs = search needs
+items-above-requires : tie.Need-items-above-requires
+items-above-requires c κs = search needs
 
 falling-requires : tie.Need-falling-requires
 falling-requires c κs = search needs
 
 returns : tie.Need-returns
 returns c =
-    let r = c .before .before .before .before .before .before .before .before .args .self in
+    let r = c .before .before .before .before .args .self in
     let long : length (r .sets) ≡ 64 = search needs in
     let fit : (b : ℕ) → Fits w32 (getD (r .sets) b 0) = λ b. search needs in
-    let priced : length (r .prices) ≡ 32 = search needs in
-    c .falling .ensures (r .nulls)
-    ∙ falling-here r (c .before .before .before .before .before .before .before .before .pre) (record { long = long; fit = λ b. fit b .fits }) priced (c .before .above-floors .result) (c .before .above-floors .ensures)
+    let above = c .before .items-above in
+    c .falling .ensures (r .nulls) ∙ falling-here r (c .before .before .before .before .pre) (record { long = long; fit = λ b. fit b .fits }) (above .result) (above .ensures)
 
 pub falling-set-spec : {M : Type 1} → statement M
-falling-set-spec = tie.close (tie.spec above-floors-requires falling-requires returns)
+falling-set-spec = tie.close (tie.spec items-above-requires falling-requires returns)
