@@ -9,7 +9,7 @@
 //!   that a live list is held to, [`console`] the lines of the console program.
 //! - [`cases`] is document 01's table; [`random`] and [`generate`] make what else the comparison runs on, from a seed.
 //!
-//! Words: item (pan), bidder (raker), price (rent), surplus (gain), assignment (naming), null (no pan), refusal (turned down).
+//! Words: item (pan), bidder (raker), price (rent), floor (lowest rent), surplus (gain), assignment (naming), null (no pan), refusal (turned down).
 
 pub mod cases;
 pub mod console;
