@@ -18,12 +18,17 @@
 //! let reasons = dewgneiss::reasons(sheet).unwrap();
 //! assert_eq!((reasons.len(), reasons[0].items, reasons[0].bidders), (4, 0b10, 0b111));
 //!
+//! // Two items, the second with a floor of 5; one bidder bids 3 and 7. Less the floors that is 3 and 2: item 1.
+//! let closing = dewgneiss::sealed_above(2, 1, &[0, 5], &[0, 5], &[3, 7]).unwrap();
+//! assert_eq!(closing.prices, [0, 5]); // nobody has item 2, which stands at its floor
+//! assert_eq!(closing.names, [1]);
+//!
 //! let refusal = dewgneiss::sealed(2, 3, &[4, 4096], &[2, 6, 3, 7, 6, 7]).unwrap_err();
 //! assert_eq!(refusal.number(), 4);
 //! println!("{refusal}");
 //! ```
 //!
-//! Words: an item is a pan, a bidder a raker, a price a rent. Items and bidders are numbered from 1.
+//! Words: an item is a pan, a bidder a raker, a price a rent, a floor the lowest rent of a pan. Items and bidders are numbered from 1.
 
 mod accepted;
 pub mod csv;
@@ -33,18 +38,21 @@ mod refusal;
 pub mod table;
 mod turn;
 
-pub use reasons::{reason_sheet, reason_sheet_into, reasons, Kind, Reason};
+pub use accepted::has_floors;
+pub use reasons::{reason_sheet, reason_sheet_into, reasons, reasons_above, Kind, Reason};
 pub use refusal::Refusal;
-pub use turn::{turn, NoTurn};
+pub use turn::{turn, turn_above, NoTurn};
 
 /// The most items.
 pub const ITEMS: usize = 32;
 /// The most bidders.
 pub const BIDDERS: usize = 64;
-/// The highest price and bid.
+/// The highest price, floor and bid.
 pub const TOP: u16 = 4095;
 /// The bytes of the longest bid sheet.
 pub const LONGEST_SHEET: usize = 8_389;
+/// The bytes of the longest bid sheet that has a line of floors, as the tools take it.
+pub const LONGEST_SHEET_ABOVE: usize = 8_519;
 /// The bytes of the longest closing sheet.
 pub const LONGEST_CLOSING: usize = 271;
 /// The bytes of the longest sheet of reasons: 31 for each of 8,190 rounds.
@@ -80,25 +88,58 @@ mod linked {
             names: *mut u8,
             names_len: usize,
         ) -> u8;
+        pub fn dewgneiss_sealed_above(
+            items: u32,
+            bidders: u32,
+            start: *const u16,
+            start_len: usize,
+            floors: *const u16,
+            floors_len: usize,
+            bids: *const u16,
+            bids_len: usize,
+            rounds: *mut u32,
+            rounds_len: usize,
+            prices: *mut u16,
+            prices_len: usize,
+            names: *mut u8,
+            names_len: usize,
+        ) -> u8;
         pub fn dewgneiss_close_sheet(bytes: *const u8, bytes_len: usize, out: *mut u8, out_len: usize) -> u8;
         pub fn dewgneiss_reasons(bytes: *const u8, bytes_len: usize, out: *mut u8, out_len: usize) -> usize;
     }
 }
 
 /// The sealed auction: `start` has a price for each item, `bids` a bid for each item, bidder after bidder. A bid of 0 is none: nobody gets an item that they
-/// bid 0 for, also at price 0.
+/// bid 0 for, also at price 0. Every floor is 0.
 ///
 /// Refused with 1, 2, 3, 4 or 5, in this order.
 pub fn sealed(items: u32, bidders: u32, start: &[u16], bids: &[u16]) -> Result<Closing, Refusal> {
+    closing(items, bidders, |rounds, prices, names| sealed_into(items, bidders, start, bids, rounds, prices, names))
+}
+
+/// The sealed auction with floors, one for each item: no price falls below its floor, and an item that nobody has stands there. A bid below the floor is a bid like
+/// any other, which gets nothing.
+///
+/// Refused with 1, 2, 3, 4, 18 or 5, in this order; 18 for a floor above 4,095 or above its starting price.
+pub fn sealed_above(items: u32, bidders: u32, start: &[u16], floors: &[u16], bids: &[u16]) -> Result<Closing, Refusal> {
+    closing(items, bidders, |rounds, prices, names| sealed_above_into(items, bidders, start, floors, bids, rounds, prices, names))
+}
+
+/// The closing that a call writes into memory which is lent to it.
+fn closing(
+    items: u32,
+    bidders: u32,
+    write: impl FnOnce(&mut [u32], &mut [u16], &mut [u8]) -> Result<(), Refusal>,
+) -> Result<Closing, Refusal> {
     // Counts out of range are refused before any length is looked at, so the room for them does not matter.
     let mut rounds = [0; 2];
     let mut prices = vec![0; (items as usize).min(ITEMS)];
     let mut names = vec![0; (bidders as usize).min(BIDDERS)];
-    sealed_into(items, bidders, start, bids, &mut rounds, &mut prices, &mut names)?;
+    write(&mut rounds, &mut prices, &mut names)?;
     Ok(Closing { raised: rounds[0], lowered: rounds[1], prices, names })
 }
 
-/// The same into lent memory: `rounds` has 2 places (raised, lowered), `prices` one for each item, `names` one for each bidder.
+/// [`sealed`] into lent memory: `rounds` has 2 places (raised, lowered), `prices` one for each item, `names` one for each bidder.
 ///
 /// Another length is refused with 3. After a refusal the lent memory is as it was.
 pub fn sealed_into(
@@ -130,7 +171,41 @@ pub fn sealed_into(
     refusal::of(number)
 }
 
-/// The closing sheet of a bid sheet, both as bytes.
+/// [`sealed_above`] into lent memory, as [`sealed_into`].
+#[allow(clippy::too_many_arguments)] // as the proved function has them
+pub fn sealed_above_into(
+    items: u32,
+    bidders: u32,
+    start: &[u16],
+    floors: &[u16],
+    bids: &[u16],
+    rounds: &mut [u32],
+    prices: &mut [u16],
+    names: &mut [u8],
+) -> Result<(), Refusal> {
+    // SAFETY: each address and length is that of one slice; the three that are written to are lent to this call alone.
+    let number = unsafe {
+        linked::dewgneiss_sealed_above(
+            items,
+            bidders,
+            start.as_ptr(),
+            start.len(),
+            floors.as_ptr(),
+            floors.len(),
+            bids.as_ptr(),
+            bids.len(),
+            rounds.as_mut_ptr(),
+            rounds.len(),
+            prices.as_mut_ptr(),
+            prices.len(),
+            names.as_mut_ptr(),
+            names.len(),
+        )
+    };
+    refusal::of(number)
+}
+
+/// The closing sheet of a bid sheet, both as bytes. Every floor is 0.
 ///
 /// Refused with 6 for the first four bytes, 1, 2, 6 for the rest, 4 or 5, in this order.
 pub fn close_sheet(bytes: &[u8]) -> Result<Vec<u8>, Refusal> {

@@ -1,8 +1,8 @@
-//! The rounds of a sheet for people: a row a round in decimal, long runs of equal rounds drawn together.
+//! The rounds of a sheet for people: a row a round in decimal, long runs of equal rounds drawn together. What is shown is held to the proved close.
 
 use crate::accepted::Accepted;
 use crate::table::counted;
-use crate::{reasons, Kind, Reason};
+use crate::{reasons_above, Closing, Kind, Reason};
 use std::error::Error;
 use std::fmt::{self, Write};
 
@@ -18,14 +18,34 @@ struct Row {
     after: Vec<u16>,
 }
 
-/// The prices after a round.
+/// The prices after a round. Those of rounds that lead to the close stay within 0 to 4,095, and others are not shown.
 fn moved(prices: &[u16], reason: &Reason) -> Vec<u16> {
     let on = |i: usize| u16::from(reason.items >> i & 1 == 1);
     let next = |(i, &p): (usize, &u16)| match reason.kind {
-        Kind::Raised => p + on(i),
-        Kind::Lowered => p - on(i),
+        Kind::Raised => p.wrapping_add(on(i)),
+        Kind::Lowered => p.wrapping_sub(on(i)),
     };
     prices.iter().enumerate().map(next).collect()
+}
+
+/// The rounds that were found do not lead to the close that the proved auction gives. No sheet is known on which that is so.
+#[derive(Clone, Copy, Debug, PartialEq, Eq)]
+pub struct Astray;
+
+impl fmt::Display for Astray {
+    fn fmt(&self, f: &mut fmt::Formatter<'_>) -> fmt::Result {
+        write!(f, "the rounds that were found do not lead to the close, and are not shown: please report the sheet")
+    }
+}
+
+impl Error for Astray {}
+
+/// Holds the rounds to a close: as many raised, as many lowered, and the last prices.
+fn leading(start: &[u16], reasons: Vec<Reason>, closing: &Closing) -> Result<Vec<Reason>, Astray> {
+    let raised = reasons.iter().filter(|r| r.kind == Kind::Raised).count();
+    let last = reasons.iter().fold(start.to_vec(), |prices, reason| moved(&prices, reason));
+    let counts = [closing.raised as usize, closing.lowered as usize];
+    ([raised, reasons.len() - raised] == counts && last == closing.prices).then_some(reasons).ok_or(Astray)
 }
 
 /// Whether two rounds look the same: one way, the same items, as many bidders.
@@ -89,15 +109,16 @@ impl Row {
     }
 }
 
-/// The table for a bid sheet; an error where it is turned down.
+/// The table for a bid sheet, with a row of floors where it has a line of them; an error where it is turned down.
 pub fn show(bytes: &[u8]) -> Result<String, Box<dyn Error>> {
-    let reasons = reasons(bytes)?;
-    Ok(written(&Accepted::of(std::str::from_utf8(bytes)?), &reasons)?)
+    let sheet = Accepted::read(bytes)?;
+    let (items, bidders) = (sheet.start.len() as u32, sheet.bidders() as u32);
+    let reasons = reasons_above(items, bidders, &sheet.start, &sheet.floors, &sheet.bids)?;
+    Ok(written(&sheet, &leading(&sheet.start, reasons, &sheet.closing)?)?)
 }
 
 fn written(sheet: &Accepted, reasons: &[Reason]) -> Result<String, fmt::Error> {
-    let raised = reasons.iter().filter(|r| r.kind == Kind::Raised).count();
-    let mut out = counted(sheet.start.len(), sheet.bidders(), raised, reasons.len() - raised)?;
+    let mut out = counted(sheet)?;
     let rows = rows(&sheet.start, reasons);
     let rounds: Vec<[String; 3]> = rows.iter().map(|r| [r.rounds(), r.moves(), r.bidders()]).collect();
     let heads = ["rounds", "what moved", "rakers for pans"];
@@ -110,9 +131,31 @@ fn written(sheet: &Accepted, reasons: &[Reason]) -> Result<String, fmt::Error> {
     let prices = |prices: &[u16]| prices.iter().map(u16::to_string).collect::<Vec<_>>();
     line(["", "", ""], &["  rents after it".to_string()])?;
     line(heads, &(1..=sheet.start.len()).map(|i| format!("pan {i}")).collect::<Vec<_>>())?;
+    if sheet.has_floors {
+        line(["floor", "", ""], &prices(&sheet.floors))?;
+    }
     line(["start", "", ""], &prices(&sheet.start))?;
     for (cells, row) in rounds.iter().zip(&rows) {
         line([&cells[0], &cells[1], &cells[2]], &prices(&row.after))?;
     }
     Ok(out)
+}
+
+#[cfg(test)]
+mod tests {
+    use super::*;
+
+    /// Rounds that do not lead to the close are not shown: one too many, one too few, another kind, another item.
+    #[test]
+    fn rounds_that_lead_elsewhere() {
+        let round = |kind, items| Reason { kind, items, bidders: 1 };
+        let [up, down] = [round(Kind::Raised, 0b10), round(Kind::Lowered, 0b01)];
+        let closing = Closing { raised: 1, lowered: 1, prices: vec![3, 5], names: vec![1] };
+        let held = |reasons: &[Reason]| leading(&[4, 4], reasons.to_vec(), &closing).map(|r| r.len());
+        assert_eq!(held(&[up, down]), Ok(2));
+        for wrong in [&[up][..], &[down], &[up, up, down], &[up, up], &[up, round(Kind::Lowered, 0b10)], &[]] {
+            assert_eq!(held(wrong), Err(Astray), "{wrong:?}");
+        }
+        assert_eq!(leading(&[0, 4], vec![up, down], &closing), Err(Astray));
+    }
 }

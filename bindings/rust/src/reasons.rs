@@ -1,6 +1,8 @@
 //! The sheet of reasons: for every round its kind, the items that moved, and the bidders for whose demands they did.
 
-use crate::{linked, refusal, Refusal, LONGEST_REASONS};
+use crate::accepted::written;
+use crate::turn::bids_beyond;
+use crate::{linked, refusal, sealed_above, Refusal, LONGEST_REASONS};
 
 /// What a round did to prices.
 #[derive(Clone, Copy, Debug, PartialEq, Eq)]
@@ -29,7 +31,25 @@ pub fn reasons(bytes: &[u8]) -> Result<Vec<Reason>, Refusal> {
     Ok(reason_sheet(bytes)?.chunks_exact(LINE).map(read_line).collect())
 }
 
-/// The same as bytes: a line of 31 for each round.
+/// The reasons of an auction with floors, round by round: those of another auction, whose floors are 0 (plain Rust, not proved).
+///
+/// Refused with 1, 2, 3, 4, 18 or 5, in this order, as [`sealed_above`] is.
+pub fn reasons_above(items: u32, bidders: u32, start: &[u16], floors: &[u16], bids: &[u16]) -> Result<Vec<Reason>, Refusal> {
+    sealed_above(items, bidders, start, floors, bids)?;
+    reasons(less_floors(start, floors, bids).as_bytes())
+}
+
+/// The bid sheet from which the floors are taken: starting prices and bids less by them. It moves as the auction with floors does, at prices that are less by the
+/// floors, in every round the same items for the same bidders:
+///
+/// - a bid above its floor has the same gain, as bid and price are both less by the floor, and an item is above its floor where it is now above 0;
+/// - a bid at or below its floor becomes 0, which is no bid. It never had a gain, and was wanted at most at the floor, beside null: by nobody who wants only items
+///   of a rising set, as null is outside of it, and for no falling set, as that has no item at its floor.
+fn less_floors(start: &[u16], floors: &[u16], bids: &[u16]) -> String {
+    written(&bids_beyond(floors, start), None, &bids_beyond(floors, bids))
+}
+
+/// The reasons of a bid sheet as bytes: a line of 31 for each round.
 pub fn reason_sheet(bytes: &[u8]) -> Result<Vec<u8>, Refusal> {
     let mut out = vec![0; LONGEST_REASONS];
     let long = reason_sheet_into(bytes, &mut out);

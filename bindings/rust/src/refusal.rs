@@ -27,12 +27,19 @@ impl Refusal {
         match self.number {
             1 => "the number of pans is not 1 to 32: mend the first two digits of the sheet (01 to 20)",
             2 => "the number of rakers is not 1 to 64: mend the third and fourth digit of the sheet (01 to 40)",
-            3 => "a length does not fit the counts: one starting rent a pan, one bid a pan for each raker, room for the whole closing",
+            3 => {
+                "a length does not fit the counts: one starting rent a pan, one floor a pan, one bid a pan for each raker, room for \
+                 the whole closing"
+            }
             4 => "a starting rent is above 4,095: mend the first line, no rent above 0fff",
             5 => "a bid is above 4,095: mend the raker's line, no bid above 0fff",
             6 => {
                 "these bytes are not a bid sheet: digits 0-9 and a-f only, four to a number, the first line with counts and \
                  starting rents, then one line a raker, a newline after each line and nothing behind the last"
+            }
+            18 => {
+                "a floor is above 4,095 or above its pan's starting rent: mend the line of floors, or raise the starting rent in \
+                 the first line"
             }
             _ => "an unknown number: the library and this wrapper do not belong together",
         }

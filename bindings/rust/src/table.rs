@@ -1,48 +1,39 @@
 //! A closing for people: tables in decimal.
 
-use crate::accepted::{numbers, Accepted};
-use crate::{close_sheet, turn, Closing};
+use crate::accepted::Accepted;
+use crate::turn_above;
 use std::error::Error;
 use std::fmt::Write;
 
-/// The first line of a table: the counts, and the rounds.
-pub(crate) fn counted(items: usize, bidders: usize, raised: usize, lowered: usize) -> Result<String, std::fmt::Error> {
+/// The first line of a table: the counts, whether there are floors, and the rounds.
+pub(crate) fn counted(sheet: &Accepted) -> Result<String, std::fmt::Error> {
     let mut out = String::new();
     let count = |n: usize, word: &str| format!("{n} {word}{}", if n == 1 { "" } else { "s" });
-    let (items, bidders) = (count(items, "pan"), count(bidders, "raker"));
-    writeln!(out, "{items}, {bidders}; {} raised, {} lowered.\n", count(raised, "round"), count(lowered, "round"))?;
+    let (items, bidders) = (count(sheet.start.len(), "pan"), count(sheet.bidders(), "raker"));
+    let floors = if sheet.has_floors { ", with floors" } else { "" };
+    let [raised, lowered] = [sheet.closing.raised, sheet.closing.lowered].map(|n| count(n as usize, "round"));
+    writeln!(out, "{items}, {bidders}{floors}; {raised} raised, {lowered} lowered.\n")?;
     Ok(out)
 }
 
-/// What a closing sheet says.
-fn read_closing(sheet: &str) -> Closing {
-    let lines: Vec<&str> = sheet.lines().collect();
-    let rounds = |digits: &str| u32::from_str_radix(digits, 16).unwrap_or(0);
-    Closing {
-        raised: rounds(&lines[0][..6]),
-        lowered: rounds(&lines[0][6..]),
-        prices: numbers(lines[1], 4),
-        names: numbers(lines[2], 2).iter().map(|&n| n as u8).collect(),
-    }
-}
-
-/// The tables for a bid sheet; an error where it is turned down.
+/// The tables for a bid sheet, with a column of floors where it has a line of them; an error where it is turned down.
 pub fn show(bytes: &[u8]) -> Result<String, Box<dyn Error>> {
-    let closing = read_closing(&String::from_utf8(close_sheet(bytes)?)?);
-    let sheet = Accepted::of(std::str::from_utf8(bytes)?);
-    let turn = turn(&sheet.start, &sheet.bids, &closing)?;
-    Ok(written(&sheet, &turn, &closing)?)
+    let sheet = Accepted::read(bytes)?;
+    let turn = turn_above(&sheet.start, &sheet.floors, &sheet.bids, &sheet.closing)?;
+    Ok(written(&sheet, &turn)?)
 }
 
-fn written(sheet: &Accepted, turn: &[u16], closing: &Closing) -> Result<String, std::fmt::Error> {
-    let Accepted { start, bids } = sheet;
+fn written(sheet: &Accepted, turn: &[u16]) -> Result<String, std::fmt::Error> {
+    let Accepted { start, floors, has_floors, bids, closing } = sheet;
     let items = start.len();
-    let mut out = counted(items, closing.names.len(), closing.raised as usize, closing.lowered as usize)?;
-    writeln!(out, "  pan  start   turn  close  let to")?;
+    let mut out = counted(sheet)?;
+    let (head, nobody) = if *has_floors { ("  floor", "nobody, at its floor") } else { ("", "nobody") };
+    writeln!(out, "  pan{head}  start   turn  close  let to")?;
     for i in 0..items {
         let who = closing.names.iter().position(|&n| n as usize == i + 1);
-        let who = who.map_or("nobody".to_string(), |b| format!("raker {}", b + 1));
-        writeln!(out, "{:5}{:7}{:7}{:7}  {who}", i + 1, start[i], turn[i], closing.prices[i])?;
+        let who = who.map_or(nobody.to_string(), |b| format!("raker {}", b + 1));
+        let floor = if *has_floors { format!("{:7}", floors[i]) } else { String::new() };
+        writeln!(out, "{:5}{floor}{:7}{:7}{:7}  {who}", i + 1, start[i], turn[i], closing.prices[i])?;
     }
     writeln!(out, "\nraker    pan    bid   rent   gain")?;
     for (b, line) in bids.chunks(items).enumerate() {

@@ -1,13 +1,13 @@
-//! The sealed auction on lent memory: lengths that do not fit, amounts too high, counts out of range, several at once; after a
-//! refusal the lent memory is as it came.
+//! The sealed auction on lent memory, without floors and with them: lengths that do not fit, amounts too high, floors too high, counts out of range, several at
+//! once; after a refusal the lent memory is as it came.
 
 use crate::fixed::number;
 use crate::sheets::on_all_processors;
 use crate::Tally;
-use dewgneiss::sealed_into;
-use model::generate::{self, Shape};
+use dewgneiss::{sealed_above_into, sealed_into};
+use model::generate::{self, too_high, Shape};
 use model::random::Random;
-use model::{flows, sealed_refusal, Sheet};
+use model::{flows, sealed_refusal, sealed_refusal_above, Sheet};
 
 /// A length near the exact one, mostly exact.
 fn near(exact: usize, r: &mut Random) -> usize {
@@ -19,13 +19,47 @@ fn near(exact: usize, r: &mut Random) -> usize {
     }
 }
 
-fn lent<T: Copy>(count: usize, mut value: impl FnMut() -> T) -> Vec<T> {
+fn filled<T: Copy>(count: usize, mut value: impl FnMut() -> T) -> Vec<T> {
     (0..count).map(|_| value()).collect()
 }
 
-fn one(k: u64, r: &mut Random, tally: &mut Tally) {
+/// The memory that is lent for the results.
+#[derive(Clone, Debug, PartialEq, Eq)]
+struct Lent {
+    rounds: Vec<u32>,
+    prices: Vec<u16>,
+    names: Vec<u8>,
+}
+
+/// A call: counts, a sheet whose lists need not fit them, let with its floors or without, and what is lent.
+#[derive(Debug)]
+struct Call {
+    floors: bool,
+    items: u32,
+    bidders: u32,
+    sheet: Sheet,
+    lent: Lent,
+}
+
+/// A floor above 4,095, or above its starting price; floors of another length.
+fn spoil_floors(s: &mut Sheet, r: &mut Random) {
+    if r.one_in(8) {
+        let at = r.within(0, s.floors.len() - 1);
+        s.floors[at] = too_high(r);
+    }
+    if r.one_in(8) {
+        let at = r.within(0, s.floors.len() - 1);
+        s.floors[at] = s.start[at].saturating_add(1);
+    }
+    if r.one_in(10) {
+        let exact = s.floors.len();
+        s.floors.resize(*r.pick(&[exact + 1, exact - 1, 0, 32]), 0);
+    }
+}
+
+fn made(floors: bool, r: &mut Random) -> Call {
     let shape = *r.pick(&[Shape::Small, Shape::Ties, Shape::Ring]);
-    let mut s = generate::sheet(shape, r);
+    let mut s = if floors { generate::sheet_above(shape, r) } else { generate::sheet(shape, r) };
     let (mut items, mut bidders) = (s.items as u32, s.bidders as u32);
     if r.one_in(10) {
         items = *r.pick(&[0, 1, 32, 33, 257, 65_537, u32::MAX]);
@@ -41,37 +75,101 @@ fn one(k: u64, r: &mut Random, tally: &mut Tally) {
         let at = r.within(0, s.bids.len() - 1);
         s.bids[at] = *r.pick(&[4096, 65_535]);
     }
+    if floors {
+        spoil_floors(&mut s, r);
+    }
     if r.one_in(8) {
         s.start.resize(near(s.start.len(), r), 0);
     }
     if r.one_in(8) {
         s.bids.resize(near(s.bids.len(), r), 0);
     }
-    let rounds = lent(if r.one_in(4) { near(2, r) } else { 2 }, || r.draw() as u32);
-    let prices = lent(if r.one_in(4) { near(s.items, r) } else { items.min(40) as usize }, || r.draw() as u16);
-    let names = lent(if r.one_in(4) { near(s.bidders, r) } else { bidders.min(70) as usize }, || r.draw() as u8);
+    let rounds = filled(if r.one_in(4) { near(2, r) } else { 2 }, || r.draw() as u32);
+    let prices = filled(if r.one_in(4) { near(s.items, r) } else { items.min(40) as usize }, || r.draw() as u16);
+    let names = filled(if r.one_in(4) { near(s.bidders, r) } else { bidders.min(70) as usize }, || r.draw() as u8);
+    Call { floors, items, bidders, sheet: s, lent: Lent { rounds, prices, names } }
+}
 
-    let fits = rounds.len() == 2 && prices.len() == items as usize && names.len() == bidders as usize;
-    let expected = match sealed_refusal(items, bidders, &s.start, &s.bids) {
-        Some(n @ 1..=3) => n,
-        _ if !fits => 3,
-        other => other.unwrap_or(0),
-    };
-    let after = if expected == 0 {
-        let c = flows::close(&Sheet { items: items as usize, bidders: bidders as usize, ..s.clone() });
-        (vec![c.raised, c.lowered], c.prices, c.names)
-    } else {
-        (rounds.clone(), prices.clone(), names.clone())
-    };
-    let (mut a, mut b, mut c) = (rounds.clone(), prices.clone(), names.clone());
-    let given = number(&sealed_into(items, bidders, &s.start, &s.bids, &mut a, &mut b, &mut c));
-    let same = given == expected && (&a, &b, &c) == (&after.0, &after.1, &after.2);
-    tally.expect(same, || {
-        let lengths = (rounds.len(), prices.len(), names.len());
-        format!("lent {k}: {items} items, {bidders} bidders, {s:?}, lengths {lengths:?}: expected {expected}, given {given}, {a:?} {b:?} {c:?}")
-    });
+impl Call {
+    /// The number that the call is to give, or 0.
+    fn number(&self) -> u8 {
+        let Call { items, bidders, ref sheet, ref lent, .. } = *self;
+        let fits = [lent.rounds.len(), lent.prices.len(), lent.names.len()] == [2, items as usize, bidders as usize];
+        let refusal = if self.floors {
+            sealed_refusal_above(items, bidders, &sheet.start, &sheet.floors, &sheet.bids)
+        } else {
+            sealed_refusal(items, bidders, &sheet.start, &sheet.bids)
+        };
+        match refusal {
+            Some(n @ 1..=3) => n,
+            _ if !fits => 3,
+            other => other.unwrap_or(0),
+        }
+    }
+
+    /// The lent memory after the call.
+    fn after(&self) -> Lent {
+        if self.number() != 0 {
+            return self.lent.clone();
+        }
+        let c = flows::close(&Sheet { items: self.items as usize, bidders: self.bidders as usize, ..self.sheet.clone() });
+        Lent { rounds: vec![c.raised, c.lowered], prices: c.prices, names: c.names }
+    }
+
+    /// The number that it gives, and the lent memory after it.
+    fn given(&self) -> (u8, Lent) {
+        let Call { items, bidders, sheet: ref s, .. } = *self;
+        let mut after = self.lent.clone();
+        let Lent { rounds, prices, names } = &mut after;
+        let answer = if self.floors {
+            sealed_above_into(items, bidders, &s.start, &s.floors, &s.bids, rounds, prices, names)
+        } else {
+            sealed_into(items, bidders, &s.start, &s.bids, rounds, prices, names)
+        };
+        (number(&answer), after)
+    }
+}
+
+fn one(floors: bool, k: u64, r: &mut Random, tally: &mut Tally) {
+    let call = made(floors, r);
+    let (expected, given) = ((call.number(), call.after()), call.given());
+    tally.expect(given == expected, || format!("lent {k}: {call:?}\nexpected {expected:?}, given {given:?}"));
 }
 
 pub fn all(count: u64, seed: u64) -> Tally {
-    on_all_processors(count, seed.wrapping_add(2), one)
+    on_all_processors(count, seed.wrapping_add(2), |k, r, tally| one(false, k, r, tally))
+}
+
+/// The same with floors.
+pub fn above(count: u64, seed: u64) -> Tally {
+    on_all_processors(count, seed.wrapping_add(7), |k, r, tally| one(true, k, r, tally))
+}
+
+#[cfg(test)]
+mod tests {
+    use super::*;
+    use crate::sheets::random;
+    use crate::{SEED, SHEETS};
+    use model::{below_floor, TOP};
+
+    /// The calls with floors of the run in which nothing else is said are accepted or get every number, also where 18 stands beside 4 or 5.
+    #[test]
+    fn the_calls_with_floors_reach_every_number() {
+        let calls: Vec<Call> = (0..SHEETS / 6).map(|k| made(true, &mut random(SEED.wrapping_add(7), k))).collect();
+        let under = |c: &Call| below_floor(&c.sheet.start, &c.sheet.floors);
+        let times = |number: u8, which: &dyn Fn(&Call) -> bool| calls.iter().filter(|c| c.number() == number && which(c)).count();
+        for number in [0, 1, 2, 3, 4, 18, 5] {
+            assert!(times(number, &|_| true) >= 100, "only {} get {number}", times(number, &|_| true));
+        }
+        let bids_too_high = |c: &Call| c.sheet.bids.iter().any(|&bid| bid > TOP);
+        let lengths = |c: &Call| c.sheet.floors.len() != c.items as usize && c.sheet.start.len() == c.items as usize;
+        for (what, count) in [
+            ("4 before 18", times(4, &under)),
+            ("18 before 5", times(18, &bids_too_high)),
+            ("3 for floors alone", times(3, &lengths)),
+            ("18 for a starting price alone", times(18, &|c| c.sheet.floors.iter().all(|&floor| floor <= TOP))),
+        ] {
+            assert!(count >= 40, "only {count} times {what}");
+        }
+    }
 }

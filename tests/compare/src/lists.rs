@@ -1,10 +1,10 @@
-//! Live lists through the program `live_console`: many lists in one run, each from an opening of its own.
+//! Live lists through the program `live_console`, with floors and without: many lists in one run, each from an opening of its own.
 
 use crate::program::run;
 use crate::sheets::text;
 use crate::Tally;
-use model::console::{line, opening_line, Console, LONGEST};
-use model::generate::{calls, live_sheet, Reporting};
+use model::console::{line, opening_above_line, opening_line, Console, LONGEST};
+use model::generate::{calls, live_sheet, live_sheet_above, Reporting};
 use model::live::{Answer, Call};
 use model::machine::Machine;
 use model::random::Random;
@@ -13,10 +13,10 @@ use model::Sheet;
 /// The lists of one run of the program.
 const BATCH: usize = 100;
 
-/// A line that is no order, or an order that is refused.
-fn damaged(good: &str, r: &mut Random) -> Vec<u8> {
+/// A line that is no order, or an order that is refused; among lists with floors now and then an opening with some.
+fn damaged(good: &str, floors: bool, r: &mut Random) -> Vec<u8> {
     let mut bytes = good.as_bytes().to_vec();
-    match r.within(0, 8) {
+    match r.within(0, if floors { 10 } else { 8 }) {
         0 => bytes.clear(),
         1 => bytes.push(*r.pick(b"0f \r")),
         2 => {
@@ -30,21 +30,38 @@ fn damaged(good: &str, r: &mut Random) -> Vec<u8> {
         5 => bytes = format!("o{:02x}{:02x}", r.pick(&[0, 1, 33, 255]), r.pick(&[0, 1, 65, 255])).into_bytes(),
         6 => bytes = format!("o01{:02x}{:04x}", r.within(1, 3), r.pick(&[0u16, 4_095, 4_096, 65_535])).into_bytes(),
         7 => bytes = format!("r{:02x}{:02x}{:08x}", r.within(0, 70), r.within(0, 3), r.draw() as u32).into_bytes(),
-        _ => bytes = (0..r.within(1, 20)).map(|_| *r.pick(b"orecs0123456789abcdef")).collect(),
+        8 => bytes = (0..r.within(1, 20)).map(|_| *r.pick(b"orecs0123456789abcdef")).collect(),
+        9 => {
+            let amounts = "0001".repeat(r.within(0, 5));
+            bytes = format!("f{:02x}{:02x}{amounts}", r.pick(&[0, 1, 2, 33]), r.pick(&[0, 1, 65])).into_bytes();
+        }
+        _ => {
+            let (start, floor) = (*r.pick(&[0u16, 7, 4_095, 4_096]), *r.pick(&[0u16, 7, 8, 4_096, 65_535]));
+            bytes = opening_above_line(1, r.within(1, 3) as u32, &[start], &[floor]).into_bytes();
+        }
     }
     bytes.retain(|&b| b != b'\n');
     bytes
 }
 
+/// Whether a line is an opening, by its letter.
+fn opens(line: &[u8]) -> bool {
+    matches!(line.first(), Some(b'o' | b'f'))
+}
+
 /// The lines of a list: its opening and its calls, now and then a damaged line between them.
-fn lines(s: &Sheet, list: &[Call], damage: bool, r: &mut Random) -> Vec<Vec<u8>> {
-    let opening = opening_line(s.items as u32, s.bidders as u32, &s.start);
+fn lines(s: &Sheet, floors: bool, list: &[Call], damage: bool, r: &mut Random) -> Vec<Vec<u8>> {
+    let opening = if floors {
+        opening_above_line(s.items as u32, s.bidders as u32, &s.start, &s.floors)
+    } else {
+        opening_line(s.items as u32, s.bidders as u32, &s.start)
+    };
     let mut lines = vec![opening.clone().into_bytes()];
     for &call in list {
         let order = line(call);
         if damage && r.one_in(12) {
-            let other = damaged(if r.one_in(3) { &opening } else { &order }, r);
-            let opens = other.starts_with(b"o");
+            let other = damaged(if r.one_in(3) { &opening } else { &order }, floors, r);
+            let opens = opens(&other);
             lines.push(other);
             // An opening that is refused changes nothing, one that is not begins another auction: after half of them the list opens again.
             if opens && r.one_in(2) {
@@ -90,14 +107,14 @@ impl List {
     }
 }
 
-fn list(k: usize, r: &mut Random) -> List {
-    let s = live_sheet(r);
+fn list(k: usize, floors: bool, r: &mut Random) -> List {
+    let s = if floors { live_sheet_above(r) } else { live_sheet(r) };
     let reporting = if k % 2 == 0 { Reporting::BySheet } else { Reporting::Wild };
     // The console lends enough room for every close.
     let room = |call: Call| if matches!(call, Call::Read { .. }) { Call::Read { room: 271 } } else { call };
     let calls: Vec<Call> = calls(&s, reporting, 250, r).into_iter().map(room).collect();
     let damage = k % 3 == 0;
-    let mut list = List::new(lines(&s, &calls, damage, r));
+    let mut list = List::new(lines(&s, floors, &calls, damage, r));
     if k % BATCH == 0 {
         // The program has just started: nothing is open yet.
         let early = list.lines.iter().skip(1).take(8).cloned().collect::<Vec<_>>();
@@ -110,13 +127,15 @@ fn list(k: usize, r: &mut Random) -> List {
 }
 
 /// Lines before any opening, when the record is the one of zeros and every call on it gives 11; openings with too many starting
-/// prices; lines as long as the program takes, and longer.
+/// prices and floors; lines as long as the program takes, and longer.
 fn edges() -> List {
-    let prices = |count: usize| format!("o2040{}", "0000".repeat(count));
-    let texts = ["e", "c", "s", "r010100000000", "x", ""].map(String::from);
-    let long = [32, 31, 33, 34, 1_000, (LONGEST - 5) / 4, 2_000].map(prices);
+    let opening = |letter: char, count: usize| format!("{letter}2040{}", "0000".repeat(count));
+    let texts = ["e", "c", "s", "r010100000000", "x", "", "f", "f2040"].map(String::from);
+    let long = [32, 31, 33, 34, 1_000, (LONGEST - 5) / 4, 2_000].map(|count| opening('o', count));
+    let floors = [64, 63, 65, 32, 33, 1_000, (LONGEST - 5) / 4, 2_000].map(|count| opening('f', count));
     let letters = [LONGEST, LONGEST + 1, 10_000].map(|n| "e".repeat(n));
-    List::new([&texts[..], &long[..], &letters[..], &texts[..]].concat().into_iter().map(String::into_bytes).collect())
+    let all = [&texts[..], &long[..], &floors[..], &letters[..], &texts[..]].concat();
+    List::new(all.into_iter().map(String::into_bytes).collect())
 }
 
 fn written(input: &[u8]) -> String {
@@ -144,16 +163,23 @@ fn compare(lists: &[List], tally: &mut Tally) {
     tally.expect(rest.is_empty(), || format!("live_console wrote more: {:?}", rest.chars().take(200).collect::<String>()));
 }
 
-/// The lists that a seed makes.
-pub fn made(count: u64, seed: u64) -> Vec<List> {
-    let mut r = Random::new(seed.wrapping_add(4));
-    (0..count as usize).map(|k| list(k, &mut r)).collect()
+/// The lists that a seed makes, without floors or with them.
+fn made(count: u64, floors: bool, seed: u64) -> Vec<List> {
+    let mut r = Random::new(seed.wrapping_add(if floors { 8 } else { 4 }));
+    (0..count as usize).map(|k| list(k, floors, &mut r)).collect()
+}
+
+/// Lists that are opened with floors.
+pub fn above(count: u64, seed: u64) -> Tally {
+    let mut tally = Tally::default();
+    made(count, true, seed).chunks(BATCH).for_each(|batch| compare(batch, &mut tally));
+    tally
 }
 
 pub fn all(count: u64, seed: u64) -> Tally {
     let mut tally = Tally::default();
     compare(&[edges()], &mut tally);
-    made(count, seed).chunks(BATCH).for_each(|batch| compare(batch, &mut tally));
+    made(count, false, seed).chunks(BATCH).for_each(|batch| compare(batch, &mut tally));
     tally.expect(written(b"e\ns") == "11\n11\n", || "a last line without a newline is a line too".into());
     tally.expect(written(b"").is_empty(), || "no line, no answer".into());
     tally
@@ -168,11 +194,14 @@ mod tests {
     /// give, have every kind of round, read closes, and stay on many sheets. How often a few lists of another seed do so is chance.
     #[test]
     fn the_lists_reach_everything() {
-        let lists = made(LISTS, SEED);
+        reach(&made(LISTS, false, SEED), &[]);
+        reach(&made(LISTS / 2, true, SEED), &["18"]);
+    }
+
+    fn reach(lists: &[List], more: &[&str]) {
         let times = |start: &str| lists.iter().flat_map(|l| &l.answers).filter(|a| a.starts_with(start)).count();
-        for start in
-            ["01", "02", "03", "04", "06", "07", "08", "11", "12", "13", "14", "15", "16", "17", "0001", "0002", "0003", "00\n0"]
-        {
+        let numbers = ["01", "02", "03", "04", "06", "07", "08", "11", "12", "13", "14", "15", "16", "17"];
+        for start in numbers.iter().chain(&["0001", "0002", "0003", "00\n0"]).chain(more) {
             assert!(times(start) >= 40, "only {} answers start with {start:?}", times(start));
         }
         let stayed = lists.iter().filter(|l| l.machine.is_some()).count();
@@ -180,10 +209,7 @@ mod tests {
         // Calls that follow an opening which was refused, in an auction that is open.
         let kept = |l: &List| {
             l.lines.windows(2).zip(l.answers.windows(2)).any(|(line, answer)| {
-                line[0].starts_with(b"o0")
-                    && !answer[0].starts_with("00")
-                    && answer[1].starts_with("00")
-                    && !line[1].starts_with(b"o")
+                opens(&line[0]) && !answer[0].starts_with("00") && answer[1].starts_with("00") && !opens(&line[1])
             })
         };
         let kept = lists.iter().filter(|l| kept(l)).count();

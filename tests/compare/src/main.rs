@@ -4,6 +4,7 @@
 //! programs are looked for in `target/bin` of the repository, where `rt` leaves them.
 
 mod fixed;
+mod floors;
 mod lent;
 mod lists;
 mod program;
@@ -44,7 +45,7 @@ fn stage(total: &mut Tally, name: &str, run: impl FnOnce() -> Tally) {
     total.add(tally);
 }
 
-/// How many sheets and lists where nothing is said, and from which seed.
+/// How many sheets and lists without floors where nothing is said, and from which seed. There are half as many with floors beside them.
 const SHEETS: u64 = 24_000;
 const LISTS: u64 = 4_000;
 const SEED: u64 = 20_250_101;
@@ -67,9 +68,12 @@ fn main() {
     stage(&mut total, "sheets within the limits, through the wrapper", || sheets::accepted(count * 2 / 3, seed));
     stage(&mut total, "damaged sheets, through the wrapper", || sheets::damaged(count / 3, seed));
     stage(&mut total, "lent memory, through the wrapper", || lent::all(count / 12, seed));
+    stage(&mut total, "sheets with floors, through the wrapper", || floors::accepted(count / 3, seed));
+    stage(&mut total, "lent memory with floors, through the wrapper", || lent::above(count / 6, seed));
     stage(&mut total, "sheets of reasons, through the wrapper", || reasons::all(count / 5, seed));
     stage(&mut total, "the programs closing_sheet and reason_sheet", || program::sheets(count / 60, seed));
     stage(&mut total, "live lists, through the program live_console", || lists::all(lists, seed));
+    stage(&mut total, "live lists with floors, through the program live_console", || lists::above(lists / 2, seed));
     println!("{} passed, {} failed", total.passed, total.failed);
     std::process::exit(i32::from(total.failed > 0));
 }

@@ -5,7 +5,7 @@ use crate::Tally;
 use model::cases;
 use model::generate::{self, Damage, Shape, DAMAGES, SHAPES};
 use model::random::Random;
-use model::{reasons, sheet, TOP};
+use model::{reasons, sheet, Sheet, TOP};
 use std::io::Write;
 use std::path::PathBuf;
 use std::process::{Command, Stdio};
@@ -44,11 +44,10 @@ fn compare(what: &str, bytes: &[u8], tally: &mut Tally) {
 
 /// The inputs at the edge of what a sheet can be.
 fn edges(tally: &mut Tally) {
-    let full = model::Sheet { items: 32, bidders: 64, start: vec![0; 32], bids: vec![1; 32 * 64] };
-    let full = sheet::write(&full);
+    let full = sheet::write(&Sheet::of(vec![0; 32], 64, vec![1; 32 * 64]));
     // 8,190 rounds: everybody wants the first half, from 0, and nobody the second half, from 4,095.
     let line: Vec<u16> = (0..32).map(|i| if i < 16 { TOP } else { 0 }).collect();
-    let longest = model::Sheet { items: 32, bidders: 64, start: line.iter().map(|&x| TOP - x).collect(), bids: line.repeat(64) };
+    let longest = Sheet::of(line.iter().map(|&x| TOP - x).collect(), 64, line.repeat(64));
     for (what, bytes) in [
         ("nothing", Vec::new()),
         ("the longest sheet", full.clone()),
@@ -60,6 +59,8 @@ fn edges(tally: &mut Tally) {
         ("bad counts and then too much", [&b"2101"[..], &[b'0'; 100_000]].concat()),
         ("a full sheet and then too much", [&full[..], &[b'0'; 100_000]].concat()),
         ("no digits and then too much", vec![b'x'; 100_000]),
+        ("a line of floors", b"01010004\nf0003\n0005\n".to_vec()),
+        ("a line of floors of 0", b"01010004\nf0000\n0005\n".to_vec()),
     ] {
         compare(what, &bytes, tally);
     }

@@ -8,7 +8,7 @@ use model::random::Random;
 use model::{reasons as second, sheet};
 
 /// The second program's reasons as the wrapper has them.
-fn plain(r: &second::Reason) -> dewgneiss::Reason {
+pub fn plain(r: &second::Reason) -> dewgneiss::Reason {
     let kind = match r.kind {
         model::Kind::Raised => Kind::Raised,
         model::Kind::Lowered => Kind::Lowered,

@@ -2,7 +2,7 @@
 
 use crate::fixed::number;
 use crate::Tally;
-use dewgneiss::{close_sheet, close_sheet_into, sealed, turn};
+use dewgneiss::{close_sheet, close_sheet_into, sealed, sealed_above, turn};
 use model::generate::{self, Shape, DAMAGES, SHAPES};
 use model::random::Random;
 use model::{flows, literal, sheet, totals, Closing};
@@ -13,6 +13,11 @@ pub fn plain(c: dewgneiss::Closing) -> Closing {
     Closing { raised: c.raised, lowered: c.lowered, prices: c.prices, names: c.names }
 }
 
+/// What the k-th thing of a seed is made from.
+pub fn random(seed: u64, k: u64) -> Random {
+    Random::new(seed.wrapping_mul(0x1000_0001) ^ k << 20)
+}
+
 /// Compares `count` things on all processors; the k-th is made from the seed and k alone.
 pub fn on_all_processors(count: u64, seed: u64, one: impl Fn(u64, &mut Random, &mut Tally) + Sync) -> Tally {
     let workers = thread::available_parallelism().map_or(1, |n| n.get() as u64);
@@ -20,7 +25,7 @@ pub fn on_all_processors(count: u64, seed: u64, one: impl Fn(u64, &mut Random, &
         let work = |w: u64| {
             let mut tally = Tally::default();
             for k in (w..count).step_by(workers as usize) {
-                one(k, &mut Random::new(seed.wrapping_mul(0x1000_0001) ^ k << 20), &mut tally);
+                one(k, &mut random(seed, k), &mut tally);
             }
             tally
         };
@@ -50,13 +55,16 @@ fn one_accepted(k: u64, r: &mut Random, tally: &mut Tally) {
         Ok(closing) if k % 4 == 0 => turn(&s.start, &s.bids, closing),
         _ => Ok(at_turn.clone()),
     };
+    // Floors of 0 are none.
+    let above = k % 4 != 1 || sealed_above(s.items as u32, s.bidders as u32, &s.start, &s.floors, &s.bids) == numbers;
     let same = numbers.clone().map(plain).as_ref() == Ok(&expected)
+        && above
         && bytes == Ok(sheet::write_closing(&expected))
         && turned.as_ref() == Ok(&at_turn);
     tally.expect(by_letter && by_totals && same, || {
         let text = String::from_utf8_lossy(&sheet::write(&s)).into_owned();
         let ways = format!("by the letter {by_letter}, by totals {by_totals}");
-        format!("sheet {k} ({shape:?}):\n{text}expected {expected:?}, turn {at_turn:?} ({ways})\nnumbers {numbers:?}, turn {turned:?}\nbytes {bytes:?}")
+        format!("sheet {k} ({shape:?}):\n{text}expected {expected:?}, turn {at_turn:?} ({ways})\nnumbers {numbers:?}, with floors of 0 {above}, turn {turned:?}\nbytes {bytes:?}")
     });
 }
 

@@ -1,7 +1,7 @@
 //! The lines of the console program: orders in, an answer for each out, the record kept between.
 //!
-//! `o` + 2 hexadecimal digits items + 2 bidders + 4 for each starting price opens; `r` + 2 digits bidder + 01 or 00 for null +
-//! 8 digits item set reports; `e` ends the round; `c` clears; `s` reads the close. Anything else is 06, and so is any longer line
+//! `o` + 2 hexadecimal digits items + 2 bidders + 4 for each starting price opens; `f` is the same with 4 digits more for each floor, behind
+//! all starting prices; `r` + 2 digits bidder + 01 or 00 for null + 8 digits item set reports; `e` ends the round; `c` clears; `s` reads the close. Anything else is 06, and so is any longer line
 //! than the program takes. A line that is answered with a number other than 00 changes nothing, an opening included.
 
 use crate::live::{Answer, Call, Record, Report};
@@ -30,7 +30,7 @@ impl Console {
     pub fn answer(&mut self, line: &[u8]) -> String {
         match line {
             _ if line.len() > LONGEST => "06\n".into(),
-            [b'o', rest @ ..] => self.opened(rest),
+            [letter @ (b'o' | b'f'), rest @ ..] => self.opened(*letter == b'f', rest),
             b"e" => self.called(Call::End),
             b"c" => self.called(Call::Clear),
             b"s" => self.called(Call::Read { room: 271 }),
@@ -42,14 +42,21 @@ impl Console {
         }
     }
 
-    fn opened(&mut self, rest: &[u8]) -> String {
-        let Some((items, bidders, start)) = opening(rest) else {
+    /// Of the numbers behind the counts, the first are starting prices, one for each item, and with floors the rest are these.
+    fn opened(&mut self, floors: bool, rest: &[u8]) -> String {
+        let Some((items, bidders, amounts)) = opening(rest) else {
             return "06\n".into();
         };
-        match Record::open(items, bidders, &start) {
+        let opened = if floors {
+            let (start, floors) = amounts.split_at(amounts.len().min(items as usize));
+            Record::open_above(items, bidders, start, floors)
+        } else {
+            Record::open(items, bidders, &amounts)
+        };
+        match opened {
             Ok(record) => {
                 self.record = record;
-                format!("00{}\n", digits(&start))
+                format!("00{}\n", digits(self.record.prices()))
             }
             Err(number) => format!("{number:02}\n"),
         }
@@ -76,8 +83,8 @@ impl Default for Console {
 }
 
 fn opening(rest: &[u8]) -> Option<(u32, u32, Vec<u16>)> {
-    let (counts, start) = rest.split_at_checked(4)?;
-    Some((number(&counts[..2])?, number(&counts[2..])?, numbers(start, start.len() / 4)?))
+    let (counts, amounts) = rest.split_at_checked(4)?;
+    Some((number(&counts[..2])?, number(&counts[2..])?, numbers(amounts, amounts.len() / 4)?))
 }
 
 fn report(rest: &[u8]) -> Option<Call> {
@@ -97,6 +104,11 @@ fn report(rest: &[u8]) -> Option<Call> {
 /// The line of an opening.
 pub fn opening_line(items: u32, bidders: u32, start: &[u16]) -> String {
     format!("o{items:02x}{bidders:02x}{}", digits(start))
+}
+
+/// The line of an opening with floors.
+pub fn opening_above_line(items: u32, bidders: u32, start: &[u16], floors: &[u16]) -> String {
+    format!("f{items:02x}{bidders:02x}{}{}", digits(start), digits(floors))
 }
 
 /// The line of a call.

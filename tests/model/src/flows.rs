@@ -32,9 +32,10 @@ pub fn demands(sheet: &Sheet, prices: &[u16]) -> Vec<Demand> {
     sheet.bids.chunks(sheet.items).map(|line| demand(line, prices)).collect()
 }
 
-/// The set of items with price above 0.
-pub fn above_zero(prices: &[u16]) -> u32 {
-    prices.iter().enumerate().filter(|(_, &p)| p > 0).map(|(i, _)| 1 << i).sum()
+/// The set of items with price above their floor.
+pub fn above(floors: &[u16], prices: &[u16]) -> u32 {
+    let over = prices.iter().zip(floors).map(|(price, floor)| u32::from(price > floor));
+    over.enumerate().map(|(i, bit)| bit << i).sum()
 }
 
 /// The members of a set, from 0.
@@ -139,7 +140,7 @@ pub fn rising(demands: &[Demand]) -> u32 {
     largest_excess(&wanted)
 }
 
-/// The falling set, `above` being the items of price above 0.
+/// The falling set, `above` being the items of price above their floor.
 pub fn falling(above: u32, demands: &[Demand]) -> u32 {
     let wanted: Vec<u32> = demands.iter().map(|d| d.items & above).collect();
     above & !largest_excess(&wanted)
@@ -166,7 +167,7 @@ pub fn path(sheet: &Sheet) -> Vec<Round> {
         let demands = demands(sheet, &prices);
         let set = match kind {
             Kind::Raised => rising(&demands),
-            Kind::Lowered => falling(above_zero(&prices), &demands),
+            Kind::Lowered => falling(above(&sheet.floors, &prices), &demands),
         };
         if set != 0 {
             prices = moved(&prices, set, kind);
@@ -289,7 +290,8 @@ pub fn close(sheet: &Sheet) -> Closing {
 /// The close after the sheet's rounds.
 pub fn close_after(sheet: &Sheet, path: &[Round]) -> Closing {
     let prices = path.last().map_or(sheet.start.clone(), |r| r.prices.clone());
-    let names = first_assignment(&demands(sheet, &prices), above_zero(&prices)).expect("some assignment fits at the close");
+    let must = above(&sheet.floors, &prices);
+    let names = first_assignment(&demands(sheet, &prices), must).expect("some assignment fits at the close");
     let raised = path.iter().filter(|r| r.kind == Kind::Raised).count();
     Closing { raised: raised as u32, lowered: (path.len() - raised) as u32, prices, names }
 }

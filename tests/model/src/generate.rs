@@ -1,4 +1,4 @@
-//! What the comparison runs on: bid sheets of many kinds, damaged ones, and lists of live calls, all from a seed.
+//! What the comparison runs on: bid sheets of many kinds, with and without floors, damaged ones, and lists of live calls, all from a seed.
 
 use crate::flows;
 use crate::live::{Answer, Call, Phase, Record, Report};
@@ -47,7 +47,7 @@ fn filled(count: usize, mut amount: impl FnMut() -> u16) -> Vec<u16> {
     (0..count).map(|_| amount()).collect()
 }
 
-/// A sheet of the given kind, within the limits.
+/// A sheet of the given kind, within the limits and without floors.
 pub fn sheet(shape: Shape, r: &mut Random) -> Sheet {
     let (items, bidders) = match shape {
         Shape::Small => (r.within(1, 4), r.within(1, 5)),
@@ -88,7 +88,50 @@ pub fn sheet(shape: Shape, r: &mut Random) -> Sheet {
         }
         Shape::Long => (filled(items, || r.amount(TOP)), filled(n, || r.amount(TOP))),
     };
-    Sheet { items, bidders, start, bids }
+    Sheet::of(start, bidders, bids)
+}
+
+/// The kinds of floors.
+#[derive(Clone, Copy, Debug, PartialEq, Eq)]
+pub enum Floors {
+    /// Every floor is the starting price.
+    AtStart,
+    /// Floors anywhere up to the starting prices.
+    BelowStart,
+    /// A few items have a floor, the others 0.
+    Few,
+    /// Some items have a floor above every bid.
+    Unmet,
+    /// Floors among the bids: some bids are below them, some prices stop at them. Starting prices are raised to them, and some above.
+    AmongBids,
+}
+
+pub const FLOORS: [Floors; 5] = [Floors::AtStart, Floors::BelowStart, Floors::Few, Floors::Unmet, Floors::AmongBids];
+
+/// The sheet with floors of the given kind, and starting prices that meet them.
+pub fn floored(sheet: Sheet, kind: Floors, r: &mut Random) -> Sheet {
+    let highest = sheet.bids.iter().copied().max().unwrap_or(0);
+    let floor = |&start: &u16| match kind {
+        Floors::AtStart => start,
+        Floors::BelowStart => r.amount(start),
+        Floors::Few if r.one_in(3) => r.amount(start),
+        Floors::Few => 0,
+        Floors::Unmet if r.one_in(2) => (highest + 1).min(TOP),
+        Floors::Unmet => r.amount(start),
+        Floors::AmongBids => r.pick(&sheet.bids).saturating_sub(r.amount(2)),
+    };
+    let floors: Vec<u16> = sheet.start.iter().map(floor).collect();
+    let over = |(&start, &floor): (&u16, &u16)| match kind {
+        Floors::AmongBids if r.one_in(3) => floor + r.amount(3.min(TOP - floor)),
+        _ => start.max(floor),
+    };
+    Sheet { start: sheet.start.iter().zip(&floors).map(over).collect(), floors, ..sheet }
+}
+
+/// A sheet of the given kind, with floors of any kind.
+pub fn sheet_above(shape: Shape, r: &mut Random) -> Sheet {
+    let kind = *r.pick(&FLOORS);
+    floored(sheet(shape, r), kind, r)
 }
 
 /// The kinds of damage to a bid sheet's bytes.
@@ -134,7 +177,7 @@ pub const DAMAGES: [Damage; 17] = [
 ];
 
 /// An amount too high to be accepted.
-fn too_high(r: &mut Random) -> u16 {
+pub fn too_high(r: &mut Random) -> u16 {
     *r.pick(&[0x1000, 0x1001, 0x8000, 0xffff, 0x1fff])
 }
 
@@ -237,11 +280,11 @@ fn any_bidder(bidders: u32, r: &mut Random) -> u32 {
     }
 }
 
-/// Calls after an opening with the sheet's counts and starting prices. The record is played along, so that the calls have
+/// Calls after an opening with the sheet's counts, starting prices and floors. The record is played along, so that the calls have
 /// something to say at each point; the list itself knows nothing of it.
 pub fn calls(sheet: &Sheet, reporting: Reporting, most: usize, r: &mut Random) -> Vec<Call> {
     let (items, bidders) = (sheet.items as u32, sheet.bidders as u32);
-    let mut record = Record::open(items, bidders, &sheet.start).expect("the sheet is within the limits");
+    let mut record = Record::open_above(items, bidders, &sheet.start, &sheet.floors).expect("the sheet is within the limits");
     let mut calls = Vec::new();
     // Whether a report that is not the sheet's stands in this round.
     let mut wrong = false;
@@ -287,7 +330,7 @@ pub fn calls(sheet: &Sheet, reporting: Reporting, most: usize, r: &mut Random) -
     calls
 }
 
-/// A sheet for a live list: few rounds, some of them at the top and at the bottom of the prices.
+/// A sheet for a live list, without floors: few rounds, some of them at the top and at the bottom of the prices.
 pub fn live_sheet(r: &mut Random) -> Sheet {
     let shape = *r.pick(&[Shape::Small, Shape::Small, Shape::Small, Shape::Ring, Shape::Middle, Shape::Ties]);
     let mut sheet = self::sheet(shape, r);
@@ -295,11 +338,17 @@ pub fn live_sheet(r: &mut Random) -> Sheet {
         sheet = self::sheet(Shape::Small, r);
     }
     if r.one_in(20) {
-        sheet = Sheet { items: ITEMS, bidders: BIDDERS, start: vec![0; ITEMS], bids: Vec::new() };
-        sheet.bids = filled(ITEMS * BIDDERS, || r.amount(2));
+        sheet = Sheet::of(vec![0; ITEMS], BIDDERS, filled(ITEMS * BIDDERS, || r.amount(2)));
     } else if r.one_in(5) {
         let up = TOP - sheet.start.iter().chain(&sheet.bids).max().unwrap_or(&0);
         sheet.start.iter_mut().chain(&mut sheet.bids).for_each(|x| *x += up);
     }
     sheet
+}
+
+/// The same with floors of any kind. At the top and at the bottom of the prices there are floors too.
+pub fn live_sheet_above(r: &mut Random) -> Sheet {
+    let sheet = live_sheet(r);
+    let kind = *r.pick(&FLOORS);
+    floored(sheet, kind, r)
 }

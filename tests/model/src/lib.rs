@@ -9,7 +9,7 @@
 //!   that a live list is held to, [`console`] the lines of the console program.
 //! - [`cases`] is document 01's table; [`random`] and [`generate`] make what else the comparison runs on, from a seed.
 //!
-//! Words: item (pan), bidder (raker), price (rent), surplus (gain), assignment (naming), null (no pan), refusal (turned down).
+//! Words: item (pan), bidder (raker), price (rent), floor (lowest rent), surplus (gain), assignment (naming), null (no pan), refusal (turned down).
 
 pub mod cases;
 pub mod console;
@@ -23,19 +23,21 @@ pub mod reasons;
 pub mod sheet;
 pub mod totals;
 
-/// The highest bid, starting price and price.
+/// The highest bid, starting price, floor and price.
 pub const TOP: u16 = 4095;
 /// The most items.
 pub const ITEMS: usize = 32;
 /// The most bidders.
 pub const BIDDERS: usize = 64;
 
-/// What a bid sheet says: counts, starting prices, and bids, bidder after bidder.
+/// What a bid sheet says: counts, starting prices, and bids, bidder after bidder; and the floors that it is let with, which are 0
+/// where nothing is said of them, and in every bid sheet as bytes.
 #[derive(Clone, Debug, PartialEq, Eq)]
 pub struct Sheet {
     pub items: usize,
     pub bidders: usize,
     pub start: Vec<u16>,
+    pub floors: Vec<u16>,
     pub bids: Vec<u16>,
 }
 
@@ -45,9 +47,19 @@ impl Sheet {
         &self.bids[(bidder - 1) * self.items..bidder * self.items]
     }
 
-    /// A sheet from its starting prices and one line a bidder.
+    /// A sheet from its starting prices and one line a bidder, with floors of 0.
     pub fn new(start: &[u16], lines: &[&[u16]]) -> Sheet {
-        Sheet { items: start.len(), bidders: lines.len(), start: start.to_vec(), bids: lines.concat() }
+        Sheet::of(start.to_vec(), lines.len(), lines.concat())
+    }
+
+    /// A sheet from its starting prices and all bids, with floors of 0.
+    pub fn of(start: Vec<u16>, bidders: usize, bids: Vec<u16>) -> Sheet {
+        Sheet { items: start.len(), bidders, floors: vec![0; start.len()], start, bids }
+    }
+
+    /// The sheet let with these floors.
+    pub fn above(self, floors: &[u16]) -> Sheet {
+        Sheet { floors: floors.to_vec(), ..self }
     }
 }
 
@@ -75,19 +87,33 @@ pub struct Closing {
     pub names: Vec<u8>,
 }
 
-/// The number that turns a sealed auction down, by document 01's order 1, 2, 3, 4, 5.
+/// Number 18: a floor above 4,095, or a starting price below its floor.
+pub fn below_floor(start: &[u16], floors: &[u16]) -> bool {
+    floors.iter().any(|&floor| floor > TOP) || start.iter().zip(floors).any(|(price, floor)| price < floor)
+}
+
+/// The number that turns a sealed auction down, by document 01's order 1, 2, 3, 4, 5: an auction with floors of 0.
 pub fn sealed_refusal(items: u32, bidders: u32, start: &[u16], bids: &[u16]) -> Option<u8> {
+    sealed_refusal_above(items, bidders, start, &vec![0; start.len()], bids)
+}
+
+/// The same with floors: 1, 2, 3, 4, 18, 5.
+pub fn sealed_refusal_above(items: u32, bidders: u32, start: &[u16], floors: &[u16], bids: &[u16]) -> Option<u8> {
     if !(1..=ITEMS as u32).contains(&items) {
         return Some(1);
     }
     if !(1..=BIDDERS as u32).contains(&bidders) {
         return Some(2);
     }
-    if start.len() != items as usize || bids.len() != items as usize * bidders as usize {
+    let lengths = [start.len(), floors.len(), bids.len()];
+    if lengths != [1, 1, bidders as usize].map(|lines| lines * items as usize) {
         return Some(3);
     }
     if start.iter().any(|&x| x > TOP) {
         return Some(4);
+    }
+    if below_floor(start, floors) {
+        return Some(18);
     }
     if bids.iter().any(|&x| x > TOP) {
         return Some(5);

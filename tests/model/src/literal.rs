@@ -1,4 +1,4 @@
-//! Document 01's rule to the letter, with document 02's word on zeros. Options are bits: bit 0 is null, bit i is item i. Every set is tried, and every part of it,
+//! Document 01's rule to the letter, with document 02's words on zeros and floors. Options are bits: bit 0 is null, bit i is item i. Every set is tried, and every part of it,
 //! so this is for a handful of items and bidders.
 
 use crate::{Closing, Kind, Round, Sheet};
@@ -46,7 +46,7 @@ fn parts(set: Options) -> Vec<Options> {
 }
 
 /// For each non-empty part T of S, more bidders than T has items both demand something in T and demand nothing outside S.
-/// `counted` is what of a demand is looked at: all of it for the rising set, the items of price above 0 for S~.
+/// `counted` is what of a demand is looked at: all of it for the rising set, the items above their floors for S~.
 fn in_excess(set: Options, demands: &[Options], counted: Options) -> bool {
     parts(set).iter().all(|part| {
         let wanting = demands.iter().filter(|&&d| d & part != 0 && d & counted & !set == 0).count();
@@ -66,9 +66,9 @@ fn items(count: usize) -> Options {
     (1..=count).map(|i| 1 << i).sum()
 }
 
-/// The items of price above 0.
-pub fn above_zero(prices: &[u16]) -> Options {
-    (1..=prices.len()).filter(|&i| prices[i - 1] > 0).map(|i| 1 << i).sum()
+/// The items of price above their floor.
+pub fn above(floors: &[u16], prices: &[u16]) -> Options {
+    (1..=prices.len()).filter(|&i| prices[i - 1] > floors[i - 1]).map(|i| 1 << i).sum()
 }
 
 /// The rising set.
@@ -76,9 +76,9 @@ pub fn rising(count: usize, demands: &[Options]) -> Options {
     largest(items(count), demands, Options::MAX)
 }
 
-/// The falling set: the items of price above 0 outside S~.
-pub fn falling(prices: &[u16], demands: &[Options]) -> Options {
-    let above = above_zero(prices);
+/// The falling set: the items of price above their floor outside S~.
+pub fn falling(floors: &[u16], prices: &[u16], demands: &[Options]) -> Options {
+    let above = above(floors, prices);
     above & !largest(above, demands, above)
 }
 
@@ -101,7 +101,7 @@ pub fn path_by(sheet: &Sheet, demand: Demand) -> Vec<Round> {
             let demands = demands(sheet, &prices, demand);
             let (set, by) = match kind {
                 Kind::Raised => (rising(sheet.items, &demands), 1),
-                Kind::Lowered => (falling(&prices, &demands), -1),
+                Kind::Lowered => (falling(&sheet.floors, &prices, &demands), -1),
             };
             if set == 0 {
                 break;
@@ -142,7 +142,8 @@ pub fn close(sheet: &Sheet) -> Closing {
     let path = path(sheet);
     let prices = path.last().map_or(sheet.start.clone(), |r| r.prices.clone());
     let demands = demands(sheet, &prices, demand);
-    let names = first_assignment(sheet.items, &demands, above_zero(&prices)).expect("some assignment fits at the close");
+    let must = above(&sheet.floors, &prices);
+    let names = first_assignment(sheet.items, &demands, must).expect("some assignment fits at the close");
     let count = |kind| path.iter().filter(|r| r.kind == kind).count() as u32;
     Closing { raised: count(Kind::Raised), lowered: count(Kind::Lowered), prices, names }
 }

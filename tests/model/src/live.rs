@@ -2,7 +2,7 @@
 
 use crate::flows::{self, Demand};
 use crate::sheet::{closing_length, write_closing};
-use crate::{Closing, Kind, BIDDERS, ITEMS, TOP};
+use crate::{below_floor, Closing, Kind, BIDDERS, ITEMS, TOP};
 
 /// A report: null yes or no, beside an item set. It is empty if it says no and the set is empty.
 pub type Report = Demand;
@@ -19,6 +19,7 @@ pub enum Phase {
 pub struct Record {
     pub items: u32,
     pub bidders: u32,
+    pub floors: [u16; ITEMS],
     pub prices: [u16; ITEMS],
     pub reports: [Report; BIDDERS],
     /// Which bidders have reported, bit k − 1 for bidder k.
@@ -63,6 +64,7 @@ impl Record {
         Record {
             items: 0,
             bidders: 0,
+            floors: [0; ITEMS],
             prices: [0; ITEMS],
             reports: [Report::default(); BIDDERS],
             reported: 0,
@@ -72,21 +74,30 @@ impl Record {
         }
     }
 
-    /// Opening: 1, 2, 3, 4.
+    /// Opening: 1, 2, 3, 4. The floors are 0.
     pub fn open(items: u32, bidders: u32, start: &[u16]) -> Result<Record, u8> {
+        Record::open_above(items, bidders, start, &vec![0; start.len()])
+    }
+
+    /// Opening with floors: 1, 2, 3, 4, 18.
+    pub fn open_above(items: u32, bidders: u32, start: &[u16], floors: &[u16]) -> Result<Record, u8> {
         if items < 1 || items > ITEMS as u32 {
             return Err(1);
         }
         if bidders < 1 || bidders > BIDDERS as u32 {
             return Err(2);
         }
-        if start.len() != items as usize {
+        if start.len() != items as usize || floors.len() != items as usize {
             return Err(3);
         }
         if start.iter().any(|&p| p > TOP) {
             return Err(4);
         }
+        if below_floor(start, floors) {
+            return Err(18);
+        }
         let mut record = Record { items, bidders, ..Record::zeros() };
+        record.floors[..floors.len()].copy_from_slice(floors);
         record.prices[..start.len()].copy_from_slice(start);
         Ok(record)
     }
@@ -111,8 +122,13 @@ impl Record {
         flows::rising(self.reports())
     }
 
+    /// The items of price above their floor.
+    fn above(&self) -> u32 {
+        flows::above(&self.floors, self.prices())
+    }
+
     fn falling_set(&self) -> u32 {
-        flows::falling(flows::above_zero(self.prices()), self.reports())
+        flows::falling(self.above(), self.reports())
     }
 
     /// Number 11, clause by clause; sums never wrap.
@@ -121,10 +137,13 @@ impl Record {
         if !(1..=ITEMS).contains(&items) || !(1..=BIDDERS).contains(&bidders) {
             return false;
         }
-        if self.prices.iter().any(|&p| p > TOP) {
+        if self.prices.iter().any(|&p| p > TOP) || self.floors.iter().any(|&f| f > TOP) {
             return false;
         }
-        let places = self.prices[items..].iter().any(|&p| p != 0);
+        if (0..items).any(|i| self.prices[i] < self.floors[i]) {
+            return false;
+        }
+        let places = self.prices[items..].iter().chain(&self.floors[items..]).any(|&p| p != 0);
         let past = self.reports[bidders..].iter().any(|&r| r != Report::default());
         let bits = bidders < BIDDERS && self.reported >> bidders != 0;
         if places || past || bits {
@@ -137,11 +156,12 @@ impl Record {
                 return false;
             }
         }
-        let sum: u64 = self.prices.iter().map(|&p| u64::from(p)).sum();
+        let total = |amounts: &[u16]| amounts.iter().map(|&p| u64::from(p)).sum::<u64>();
+        let (sum, floors) = (total(&self.prices), total(&self.floors));
         let (raised, lowered) = (u64::from(self.raised), u64::from(self.lowered));
         let most = u64::from(TOP) * items as u64;
         match self.phase {
-            Phase::Rising => lowered == 0 && raised <= sum,
+            Phase::Rising => lowered == 0 && raised <= sum - floors,
             Phase::Falling => raised <= most && sum + lowered <= most,
             Phase::Closed => {
                 raised <= most
@@ -245,7 +265,7 @@ impl Record {
         if room < closing_length(self.items as usize, self.bidders as usize) {
             return Answer::Refused(3);
         }
-        let names = flows::first_assignment(self.reports(), flows::above_zero(self.prices()));
+        let names = flows::first_assignment(self.reports(), self.above());
         Answer::Sheet(write_closing(&Closing {
             raised: self.raised,
             lowered: self.lowered,

@@ -108,7 +108,8 @@ impl Machine {
         if room < closing_length(self.sheet.items, self.sheet.bidders) {
             return Answer::Refused(3);
         }
-        let names = flows::first_assignment(&self.demands(), flows::above_zero(self.prices()));
+        let must = flows::above(&self.sheet.floors, self.prices());
+        let names = flows::first_assignment(&self.demands(), must);
         let (raised, lowered) = self.rounds();
         Answer::Sheet(write_closing(&Closing {
             raised,

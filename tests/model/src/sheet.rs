@@ -40,10 +40,10 @@ pub fn read(bytes: &[u8]) -> Result<Sheet, u8> {
         return Err(6);
     }
     let rows: Vec<Vec<u16>> = lines.iter().map(|l| numbers(l, items)).collect::<Option<_>>().ok_or(6)?;
-    Ok(Sheet { items, bidders, start: rows[0].clone(), bids: rows[1..].concat() })
+    Ok(Sheet::of(rows[0].clone(), bidders, rows[1..].concat()))
 }
 
-/// The bytes of a bid sheet.
+/// The bytes of a bid sheet, which say nothing of floors.
 pub fn write(sheet: &Sheet) -> Vec<u8> {
     let line = |amounts: &[u16]| amounts.iter().map(|x| format!("{x:04x}")).collect::<String>();
     let mut text = format!("{:02x}{:02x}{}\n", sheet.items, sheet.bidders, line(&sheet.start));

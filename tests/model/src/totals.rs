@@ -1,6 +1,7 @@
-//! Turn and close without a round: both are least equilibrium prices, and such a price is what the best total would gain from one
-//! more copy of the item (source document 000's prices are those of Vickrey). Counts of rounds are then the largest rise and the
-//! largest fall. Best totals come from the Hungarian method with potentials.
+//! Turn and close without a round: both are least equilibrium prices, one from the starting prices and one from the floors, and how
+//! far such a price stands above them is what the best total of bids less them would gain from one more copy of the item (source
+//! document 000's prices are those of Vickrey). Counts of rounds are then the largest rise and the largest fall. Best totals come from
+//! the Hungarian method with potentials.
 
 use crate::Sheet;
 
@@ -59,16 +60,20 @@ fn least_prices(worth: &[Vec<i32>]) -> Vec<i32> {
     (0..worth[0].len()).map(|c| best_total(&with_copy(c)) - total).collect()
 }
 
+/// The bids less these prices, a line a bidder.
+fn bids_less(sheet: &Sheet, prices: &[u16]) -> Vec<Vec<i32>> {
+    let line = |l: &[u16]| l.iter().zip(prices).map(|(&bid, &price)| i32::from(bid) - i32::from(price)).collect();
+    sheet.bids.chunks(sheet.items).map(line).collect()
+}
+
+/// The least equilibrium prices at or above the given ones.
+fn least_from(sheet: &Sheet, low: &[u16]) -> Vec<u16> {
+    least_prices(&bids_less(sheet, low)).iter().zip(low).map(|(&up, &low)| low + up as u16).collect()
+}
+
 /// The prices at the turn and at the close.
 pub fn turn_and_close(sheet: &Sheet) -> (Vec<u16>, Vec<u16>) {
-    let worth = |start: &dyn Fn(usize) -> i32| -> Vec<Vec<i32>> {
-        let line = |l: &[u16]| l.iter().enumerate().map(|(i, &bid)| bid as i32 - start(i)).collect();
-        sheet.bids.chunks(sheet.items).map(line).collect()
-    };
-    let rise = least_prices(&worth(&|i| sheet.start[i] as i32));
-    let turn = rise.iter().zip(&sheet.start).map(|(&up, &start)| (start as i32 + up) as u16).collect();
-    let close = least_prices(&worth(&|_| 0)).iter().map(|&p| p as u16).collect();
-    (turn, close)
+    (least_from(sheet, &sheet.start), least_from(sheet, &sheet.floors))
 }
 
 /// Rounds raised and lowered: the largest rise and the largest fall.
@@ -77,14 +82,13 @@ pub fn rounds(sheet: &Sheet, turn: &[u16], close: &[u16]) -> (u32, u32) {
     (largest(turn, &sheet.start), largest(turn, close))
 }
 
-/// The total of an assignment.
+/// The total of an assignment: its bids less the floors.
 pub fn total(sheet: &Sheet, names: &[u8]) -> i32 {
-    let bid = |(b, &item): (usize, &u8)| if item == 0 { 0 } else { sheet.line(b + 1)[item as usize - 1] as i32 };
-    names.iter().enumerate().map(bid).sum()
+    let lines = bids_less(sheet, &sheet.floors);
+    names.iter().zip(&lines).map(|(&item, line)| if item == 0 { 0 } else { line[item as usize - 1] }).sum()
 }
 
-/// The best total of the sheet's bids.
+/// The best total of the sheet's bids less its floors.
 pub fn best(sheet: &Sheet) -> i32 {
-    let line = |l: &[u16]| l.iter().map(|&bid| bid as i32).collect();
-    best_total(&sheet.bids.chunks(sheet.items).map(line).collect::<Vec<_>>())
+    best_total(&bids_less(sheet, &sheet.floors))
 }

@@ -21,7 +21,7 @@ fn k2_and_k3() {
     let example_6 = &table()[0].sheet;
     let at = flows::demands(example_6, &[0, 4]);
     assert_eq!(flows::rising(&at), 0b11);
-    assert_eq!(flows::falling(flows::above_zero(&[0, 4]), &at), 0);
+    assert_eq!(flows::falling(flows::above(&[0, 0], &[0, 4]), &at), 0);
 }
 
 #[test]
@@ -92,6 +92,15 @@ fn a_refused_opening() {
     assert_eq!(Record::open(32, 64, &[0; 31]), Err(3));
     assert_eq!(Record::open(1, 1, &[4096]), Err(4));
     assert!(Record::open(32, 64, &[4095; 32]).is_ok());
+    assert_eq!(Record::open_above(33, 65, &[], &[]), Err(1));
+    assert_eq!(Record::open_above(32, 65, &[], &[]), Err(2));
+    assert_eq!(Record::open_above(2, 1, &[4, 4], &[4]), Err(3));
+    assert_eq!(Record::open_above(2, 1, &[4, 4], &[4, 4, 0]), Err(3));
+    assert_eq!(Record::open_above(2, 1, &[4], &[4, 4]), Err(3));
+    assert_eq!(Record::open_above(2, 1, &[4096, 4], &[4097, 5]), Err(4));
+    assert_eq!(Record::open_above(2, 1, &[4, 4], &[4, 5]), Err(18));
+    assert_eq!(Record::open_above(1, 1, &[4095], &[4096]), Err(18));
+    assert!(Record::open_above(32, 64, &[4095; 32], &[4095; 32]).is_ok());
     assert_eq!(Record::zeros().call(Call::Clear), Answer::Refused(11));
 }
 

@@ -69,6 +69,26 @@ fn a_number_changes_nothing() {
         ("o02030004", "03\n"),
         ("o0203000400040004", "03\n"),
         ("o020300041000", "04\n"),
+        ("f00010000", "01\n"),
+        ("f2101", "01\n"),
+        ("f01000000", "02\n"),
+        ("f0141", "02\n"),
+        ("f0203", "03\n"),
+        ("f02030004", "03\n"),
+        ("f020300040004", "03\n"),
+        ("f0203000400040000", "03\n"),
+        ("f020300041000ffff", "03\n"),
+        ("f020300040004000000000000", "03\n"),
+        ("f0203000410000000ffff", "04\n"),
+        ("f0203000400040000ffff", "18\n"),
+        ("f02030004000400040005", "18\n"),
+        ("f02030004000400050004", "18\n"),
+        ("f01030fff1000", "18\n"),
+        ("f020300040004000400", "06\n"),
+        ("f0203000400040004000G", "06\n"),
+        ("f02", "06\n"),
+        ("f", "06\n"),
+        ("F02030004000400000000", "06\n"),
         ("o0203000400", "06\n"),
         ("o0203000G0004", "06\n"),
         ("o02", "06\n"),
@@ -99,4 +119,36 @@ fn an_opening_begins_anew() {
     let mut console = opened();
     assert_eq!(console.answer(b"o01020fff"), "000fff\n");
     assert_eq!(console.record, Record::open(1, 2, &[4095]).unwrap());
+    assert_eq!(console.answer(b"f02010fff00070fff0003"), "000fff0007\n");
+    assert_eq!(console.record, Record::open_above(2, 1, &[4095, 7], &[4095, 3]).unwrap());
+    assert_eq!(console.answer(b"o01020fff"), "000fff\n");
+    assert_eq!(console.record, Record::open(1, 2, &[4095]).unwrap());
+}
+
+/// Two items with a floor, opened one above it: the second falls to its floor and no further, and stands there when nobody has it.
+#[test]
+fn an_auction_with_floors() {
+    let mut console = Console::new();
+    for (line, answer) in [
+        ("f02010000000600000005", "0000000006\n"),
+        ("r010000000001", "00\n"),
+        ("e", "00020000000200000005\n"),
+        ("r010000000001", "00\n"),
+        ("e", "00030000000000000005\n"),
+        ("s", "00\n000000000001\n00000005\n01\n"),
+    ] {
+        assert_eq!(console.answer(line.as_bytes()), answer, "{line}");
+    }
+}
+
+/// `examples/` has a live auction with floors and one without, each with what is answered; their last lines are a closing sheet's.
+#[test]
+fn the_examples() {
+    let folder = std::path::Path::new(env!("CARGO_MANIFEST_DIR")).join("../../examples");
+    for name in ["example-6", "floors"] {
+        let text = |kind: &str| std::fs::read_to_string(folder.join(format!("{name}.{kind}"))).expect("an example");
+        let mut console = Console::new();
+        let answers: String = text("live").lines().map(|line| console.answer(line.as_bytes())).collect();
+        assert_eq!(answers, text("answers"), "{name}");
+    }
 }

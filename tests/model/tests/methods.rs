@@ -1,7 +1,7 @@
 //! The methods of the second program against each other.
 
 use model::flows::{self, Demand};
-use model::generate::{sheet, Shape, SHAPES};
+use model::generate::{sheet, sheet_above, Shape, SHAPES};
 use model::literal::{self, Options};
 use model::random::Random;
 use model::{totals, Sheet};
@@ -11,25 +11,26 @@ fn options(d: &Demand) -> Options {
     Options::from(d.items) << 1 | Options::from(d.null)
 }
 
-/// Any reports, also ones that fit no bids, and any prices.
-fn reports(r: &mut Random) -> (usize, Vec<u16>, Vec<Demand>) {
+/// Any reports, also ones that fit no bids, and any prices and floors.
+fn reports(r: &mut Random) -> (usize, [Vec<u16>; 2], Vec<Demand>) {
     let items = r.within(1, 5);
-    let prices = (0..items).map(|_| r.amount(2)).collect();
+    let prices: Vec<u16> = (0..items).map(|_| r.amount(2)).collect();
+    let floors = prices.iter().map(|&p| if r.one_in(2) { r.amount(p) } else { 0 }).collect();
     let demands = (0..r.within(1, 7))
         .map(|_| Demand { null: r.one_in(4), items: (r.draw() & r.draw()) as u32 & ((1 << items) - 1) })
         .collect();
-    (items, prices, demands)
+    (items, [floors, prices], demands)
 }
 
 #[test]
 fn both_sets_by_definition_and_by_closure() {
     let mut r = Random::new(1);
     for _ in 0..6_000 {
-        let (items, prices, demands) = reports(&mut r);
+        let (items, [floors, prices], demands) = reports(&mut r);
         let by_letter: Vec<Options> = demands.iter().map(options).collect();
         assert_eq!(literal::rising(items, &by_letter) >> 1, u64::from(flows::rising(&demands)));
-        let falling = flows::falling(flows::above_zero(&prices), &demands);
-        assert_eq!(literal::falling(&prices, &by_letter) >> 1, u64::from(falling));
+        let falling = flows::falling(flows::above(&floors, &prices), &demands);
+        assert_eq!(literal::falling(&floors, &prices, &by_letter) >> 1, u64::from(falling));
     }
 }
 
@@ -38,8 +39,8 @@ fn first_assignment_by_enumeration_and_by_flow() {
     let mut r = Random::new(2);
     let mut found = 0;
     for _ in 0..6_000 {
-        let (items, prices, demands) = reports(&mut r);
-        let must = flows::above_zero(&prices);
+        let (items, [floors, prices], demands) = reports(&mut r);
+        let must = flows::above(&floors, &prices);
         let by_letter: Vec<Options> = demands.iter().map(options).collect();
         let literal = literal::first_assignment(items, &by_letter, u64::from(must) << 1);
         assert_eq!(literal, flows::first_assignment(&demands, must));
@@ -64,13 +65,14 @@ fn demand_by_comparison_and_by_pass() {
 fn small_sheets_by_the_letter_and_by_closure() {
     let mut r = Random::new(4);
     for _ in 0..4_000 {
-        let s = sheet(Shape::Small, &mut r);
-        assert_eq!(literal::path(&s), flows::path(&s), "{s:?}");
-        assert_eq!(literal::close(&s), flows::close(&s), "{s:?}");
+        for s in [sheet(Shape::Small, &mut r), sheet_above(Shape::Small, &mut r)] {
+            assert_eq!(literal::path(&s), flows::path(&s), "{s:?}");
+            assert_eq!(literal::close(&s), flows::close(&s), "{s:?}");
+        }
     }
 }
 
-/// Turn and close without rounds; the counts as largest rise and fall; the total that nothing beats.
+/// Turn and close without rounds; the counts as largest rise and fall; the total of bids less floors that nothing beats.
 fn holds_totals(s: &Sheet) {
     let path = flows::path(s);
     let closing = flows::close_after(s, &path);
@@ -87,6 +89,7 @@ fn every_kind_of_sheet_by_rounds_and_by_totals() {
     for shape in SHAPES {
         for _ in 0..if shape == Shape::Large { 30 } else { 60 } {
             holds_totals(&sheet(shape, &mut r));
+            holds_totals(&sheet_above(shape, &mut r));
         }
     }
 }
@@ -96,5 +99,6 @@ fn small_sheets_by_rounds_and_by_totals() {
     let mut r = Random::new(6);
     for _ in 0..3_000 {
         holds_totals(&sheet(Shape::Small, &mut r));
+        holds_totals(&sheet_above(Shape::Small, &mut r));
     }
 }

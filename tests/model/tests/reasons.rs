@@ -1,7 +1,7 @@
 //! The sheet of reasons: document 02's lines on document 01's lettings, and its two facts on generated ones.
 
 use model::cases::table;
-use model::generate::{sheet, Shape, SHAPES};
+use model::generate::{sheet, sheet_above, Shape, SHAPES};
 use model::literal;
 use model::random::Random;
 use model::reasons::{along, answer, reason, Reason};
@@ -47,13 +47,14 @@ fn turned_down() {
     }
 }
 
-/// A raised set has more such bidders than items, and a lowered set no more than it has items: on sheets of every kind.
+/// A raised set has more such bidders than items, and a lowered set no more than it has items: on sheets of every kind, with floors too.
 #[test]
 fn more_for_a_rise_and_no_more_for_a_fall() {
     let mut r = Random::new(101);
     let mut seen = [0; 2];
     for k in 0..1_500 {
-        let s = sheet(SHAPES[k % (SHAPES.len() - 1)], &mut r);
+        let made = if k % 2 == 0 { sheet } else { sheet_above };
+        let s = made(SHAPES[k / 2 % (SHAPES.len() - 1)], &mut r);
         for Reason { kind, items, bidders } in along(&s, &flows::path(&s)) {
             assert_eq!(kind == Kind::Raised, bidders.count_ones() > items.count_ones(), "{s:?}");
             seen[usize::from(kind == Kind::Raised)] += 1;
@@ -67,8 +68,9 @@ fn more_for_a_rise_and_no_more_for_a_fall() {
 fn by_the_letter_too() {
     let mut r = Random::new(102);
     for _ in 0..1_500 {
-        let s = sheet(Shape::Small, &mut r);
-        assert_eq!(along(&s, &literal::path(&s)), along(&s, &flows::path(&s)), "{s:?}");
+        for s in [sheet(Shape::Small, &mut r), sheet_above(Shape::Small, &mut r)] {
+            assert_eq!(along(&s, &literal::path(&s)), along(&s, &flows::path(&s)), "{s:?}");
+        }
     }
 }
 

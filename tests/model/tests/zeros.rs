@@ -1,19 +1,24 @@
 //! Document 02, #102: a zero is no bid. Prices, rounds, reasons and the prices that balance are those of document 01's demand; names are not.
 
-use model::generate::{sheet, Shape, SHAPES};
-use model::literal::{above_zero, close, demand, demands, first_assignment, former_demand, path, path_by, Demand};
+use model::generate::{floored, sheet, sheet_above, Shape, FLOORS, SHAPES};
+use model::literal::{above, close, demand, demands, first_assignment, former_demand, path, path_by, Demand};
 use model::live::{Answer, Call, Report};
 use model::machine::Machine;
 use model::random::Random;
 use model::reasons::{along, along_by};
 use model::{flows, Sheet};
 
-/// A sheet of at most 3 by 4 with low amounts, most of its bids 0.
+/// A sheet of at most 3 by 4 with low amounts, most of its bids 0; every other one has floors.
 fn small(r: &mut Random) -> Sheet {
     let (items, bidders, top) = (r.within(1, 3), r.within(1, 4), r.within(1, 3) as u16);
     let start = (0..items).map(|_| r.amount(top)).collect();
     let bids = (0..items * bidders).map(|_| if r.one_in(2) { 0 } else { r.amount(top) }).collect();
-    Sheet { items, bidders, start, bids }
+    let sheet = Sheet::of(start, bidders, bids);
+    if r.one_in(2) {
+        return sheet;
+    }
+    let kind = *r.pick(&FLOORS);
+    floored(sheet, kind, r)
 }
 
 /// Such sheets, from a seed.
@@ -47,7 +52,8 @@ fn rounds_and_reasons_stay() {
         assert_eq!(now, before, "{s:?}");
         assert_eq!(along(&s, &now), along_by(&s, &before, former_demand), "{s:?}");
         let closing = close(&s);
-        let former = first_assignment(s.items, &demands(&s, &closing.prices, former_demand), above_zero(&closing.prices));
+        let must = above(&s.floors, &closing.prices);
+        let former = first_assignment(s.items, &demands(&s, &closing.prices, former_demand), must);
         renamed += usize::from(former != Some(closing.names.clone()));
         let bid_for = |(b, &i): (usize, &u8)| i == 0 || s.line(b + 1)[i as usize - 1] > 0;
         assert!(closing.names.iter().enumerate().all(bid_for), "{s:?}: {closing:?}");
@@ -61,7 +67,8 @@ fn reasons_stay_on_every_kind() {
     let mut r = Random::new(203);
     for k in 0..900 {
         let shape = SHAPES[k % (SHAPES.len() - 1)];
-        let s = sheet(if k % 2 == 0 { Shape::Zeros } else { shape }, &mut r);
+        let made = if k % 4 < 2 { sheet } else { sheet_above };
+        let s = made(if k % 2 == 0 { Shape::Zeros } else { shape }, &mut r);
         let path = flows::path(&s);
         assert_eq!(along(&s, &path), along_by(&s, &path, former_demand), "{s:?}");
     }
@@ -69,7 +76,7 @@ fn reasons_stay_on_every_kind() {
 
 /// Whether these prices balance by this demand: every assignment is tried.
 fn balance(s: &Sheet, prices: &[u16], demand: Demand) -> bool {
-    first_assignment(s.items, &demands(s, prices, demand), above_zero(prices)).is_some()
+    first_assignment(s.items, &demands(s, prices, demand), above(&s.floors, prices)).is_some()
 }
 
 /// Of all prices up to one above the highest bid, the same ones balance.

@@ -1,6 +1,6 @@
 //! What `./run show`, `./run path` and `./run make` call: `sheet-tool show FILE`, and so on; `-` is standard input.
 
-use dewgneiss::{csv, path, table, LONGEST_SHEET};
+use dewgneiss::{csv, has_floors, path, table, NoTurn, LONGEST_SHEET_ABOVE};
 use std::error::Error;
 use std::ffi::{OsStr, OsString};
 use std::fmt::Display;
@@ -23,26 +23,41 @@ fn start(file: &OsStr, longest: usize) -> Result<Vec<u8>, Box<dyn Error>> {
     Ok(bytes)
 }
 
+/// The bid sheet of a table. Not every command takes one with floors, so that is said.
+fn make(file: &OsStr) -> Result<String, Box<dyn Error>> {
+    let sheet = csv::bid_sheet(&start(file, csv::LONGEST_TABLE)?).map_err(of(file))?;
+    if has_floors(sheet.as_bytes()) {
+        let others = "./run SHEET and ./run reasons let without floors, and turn it down";
+        say(&format!("this sheet has floors: ./run show and ./run path take it; {others}"));
+    }
+    Ok(sheet)
+}
+
 fn run(words: &[OsString]) -> Result<String, Box<dyn Error>> {
     match words {
-        [verb, file] if verb == "show" => table::show(&start(file, LONGEST_SHEET)?),
-        [verb, file] if verb == "path" => path::show(&start(file, LONGEST_SHEET)?),
-        [verb, file] if verb == "make" => csv::bid_sheet(&start(file, csv::LONGEST_TABLE)?).map_err(of(file)),
+        [verb, file] if verb == "show" => table::show(&start(file, LONGEST_SHEET_ABOVE)?),
+        [verb, file] if verb == "path" => path::show(&start(file, LONGEST_SHEET_ABOVE)?),
+        [verb, file] if verb == "make" => make(file),
         _ => Err("usage: sheet-tool show SHEET | sheet-tool path SHEET | sheet-tool make FILE.csv".into()),
     }
 }
 
-/// Says what is wrong. Where standard error is lost too, the status is all that is left.
+/// Says something beside the answer. Where standard error is lost too, the status is all that is left.
+fn say(words: &dyn Display) {
+    let _ = writeln!(std::io::stderr(), "{words}");
+}
+
 fn failed(error: &dyn Display, status: u8) -> ExitCode {
-    let _ = writeln!(std::io::stderr(), "{error}");
+    say(error);
     ExitCode::from(status)
 }
 
-/// Ends with status 1 where the input is refused, and 2 where the answer is lost.
+/// Ends with status 1 where the input is refused, and 2 where the answer is lost or does not fit the proved close.
 fn main() -> ExitCode {
     let words: Vec<OsString> = std::env::args_os().skip(1).collect();
     let mut out = std::io::stdout();
     match run(&words) {
+        Err(error) if error.is::<NoTurn>() || error.is::<path::Astray>() => failed(&error, 2),
         Err(error) => failed(&error, 1),
         Ok(text) => match out.write_all(text.as_bytes()).and_then(|()| out.flush()) {
             Err(error) => failed(&format!("the answer could not be written: {error}"), 2),
