@@ -1,4 +1,4 @@
--- K1 to K9, each by computation from the definitions: the path's last state, and from it that no earlier round closed. Assumes nothing.
+-- K1 to K9 and the rows with floors, each by computation from the definitions: the path's last state, and from it that no earlier round closed. Assumes nothing.
 use Prim.Native.Nat.{ℕ, zero, suc, _+_, _≤_, _<_}
 use mathlib.Core.Bool.{true}
 use mathlib.Core.List.{List, [], _∷_}
@@ -17,7 +17,7 @@ use Rattle.rule.specs.Sheet.{amount, row, each4095, Sheet, withinLimits}
 use Rattle.rule.specs.Demand.{surplusAtLeast, best, demand, demands, wants, nth}
 use Rattle.rule.specs.Excess.{bidders, crowded, inExcess, inPositiveExcess, excessDemand, positiveExcessDemand, excessSupply, aboveFloors}
 use Rattle.rule.specs.Round.{raise, lower, Round, raised, lowered, closed, State, roundFalling, round, move, roundAt, after, opening, path}
-use Rattle.rule.specs.Assignment.{option, holders, isAssignment, fits, someList, choose, assignment}
+use Rattle.rule.specs.Assignment.{option, holders, isAssignment, fits, someList, choose, assignment, total, floorTotal}
 use Rattle.cases.specs.Cases.{Given, sheetAbove, demanded, Finding, rising, isS~, falling, closing, Closes, Found, Row, Each, Holds, table}
 use Rattle.rule.specs.Closing.{phaseAfter, assignmentAt}
 
@@ -154,3 +154,19 @@ computed = (
 -- each row of the table holds
 pub cases : Each Holds table
 cases = each-map ComputedRow Holds (λ r. each-map (Computed (r .given)) (Found (r .given)) (found (r .given)) (r .finds)) table computed
+
+-- ---- of the row with two floors: item 2 has the higher bid, and item 1, which is named, the higher bid less its floor
+
+abbrev oneRow : List (List ℕ)
+oneRow = (3 ∷ 7 ∷ []) ∷ []
+
+abbrev twoFloors : List ℕ
+twoFloors = 0 ∷ 5 ∷ []
+
+pub higher-without : total oneRow (1 ∷ []) < total oneRow (2 ∷ [])
+unfolding total sum row option amount
+higher-without = omega arith
+
+pub lower-with : total oneRow (2 ∷ []) + floorTotal twoFloors (1 ∷ []) < total oneRow (1 ∷ []) + floorTotal twoFloors (2 ∷ [])
+unfolding total floorTotal sum row option amount
+lower-with = omega arith
