@@ -18,11 +18,12 @@ use Rattle.rule.specs.Assignment.{option, holders, isAssignment, fits, A
 use Rattle.rule.specs.Equilibrium.{Below, Equilibrium, greatest}
 use Rattle.rule.specs.Closing.{roundOf, largestRise}
 use Rattle.rule.specs.Reasons.{biddersWith, reasonOf, reasonAt, Justified}
+use Rattle.rule.specs.Refusal.{anyOver, anyUnder, badFloors}
 use Rattle.rule.specs.Former.{formerDemand, formerDemands, formerRoundAt, formerAfter, formerPath, FormerEquilibrium}
 
 -- the definitions that the cases compute with
 computing : Unit {0}
-unfolding allBelow anyBelow count bit isSet has setOf each any size largestBelow largest tabulate amount surplusAtLeast best demand demands wants nth bidders overdemanded weaklyUnderdemanded crowded inExcess inPositiveExcess excessDemand positiveExcessDemand excessSupply aboveFloors raise lower roundFalling round move roundAt after opening path mostRounds option holders isAssignment fits greatest biddersWith reasonOf reasonAt formerDemand formerDemands formerRoundAt formerAfter formerPath sum floorTotal
+unfolding allBelow anyBelow count bit isSet has setOf each any size largestBelow largest tabulate amount surplusAtLeast best demand demands wants nth bidders overdemanded weaklyUnderdemanded crowded inExcess inPositiveExcess excessDemand positiveExcessDemand excessSupply aboveFloors raise lower roundFalling round move roundAt after opening path mostRounds option holders isAssignment fits greatest biddersWith reasonOf reasonAt formerDemand formerDemands formerRoundAt formerAfter formerPath sum floorTotal anyOver anyUnder badFloors
 computing = tt
 
 -- a demand of these items alone, and one of null beside them
@@ -231,6 +232,13 @@ two-for-one = record { raised-more = λ e. omega arith; lowered-no-more = λ e. 
 pub two-for-two : Justified 2 2 (record { kind = 2; items = 3; bidders = 3 })
 unfolding computing
 two-for-two = record { raised-more = λ e. absurd (omega (arith, e)); lowered-no-more = λ e. omega arith }
+
+-- ---- 18
+
+-- a floor above 4,095 is as bad as one above its starting price; one at its starting price is not
+pub too-high : (badFloors (4096 ∷ []) (4096 ∷ []) ≡ true) × (badFloors (1 ∷ []) (2 ∷ []) ≡ true) × (badFloors (2 ∷ []) (2 ∷ []) ≡ false)
+unfolding computing
+too-high = (refl, refl, refl)
 
 -- ---- without #102
 
