@@ -1,4 +1,4 @@
--- Fewer than 32 items: where nothing is reported past m items, and no item past m is above price 0, the names are those among m items. Assumes nothing.
+-- Fewer than 32 items: where nothing is reported past m items, and no item past m is above its floor, the names are those among m items. Assumes nothing.
 use Prim.Native.Nat.{ℕ, zero, suc, _^_, _≤_, _<_}
 use mathlib.Core.Path.{_≡_, refl, sym, _∙_}
 use mathlib.Core.Bool.{Bool, true, false}
@@ -41,7 +41,7 @@ module _ (m n : ℕ) (sets : List ℕ) (r : Reported m n sets) (nulls above : �
   len : length (reports n sets nulls) ≡ n
   len = reports-length n sets nulls
 
-  -- an item that is demanded, and one above price 0, is among m
+  -- an item that is demanded, and one above its floor, is among m
   demanded : (b i : ℕ) → b < length (reports n sets nulls) → wants (nth (reports n sets nulls) b) i ≡ true → i < suc m
   demanded b zero l e = omega arith
   demanded b (suc k) l e = go (lt-or-le k m)

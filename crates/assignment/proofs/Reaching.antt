@@ -1,6 +1,6 @@
 -- The next bidder's options from one completion. x completes ys, and the next bidder, at place length ys, has a. Item i can be had instead exactly
 -- where a is reachable from i, if a later bidder moves from what they have to what they demand, and if null, or an item that nobody has, takes one
--- more while null, or an item of price 0, is left. THEORY.md 3.2. Assumes nothing.
+-- more while null, or an item at its floor, is left. THEORY.md 3.2. Assumes nothing.
 use Prim.Native.Nat.{ℕ, zero, suc, _≤_, _<_}
 use mathlib.Core.Path.{_≡_, refl, sym, ap, _∙_}
 use mathlib.Core.Bool.{Bool, true, false, _&&_, not}
@@ -196,7 +196,7 @@ module _ {m n : ℕ} {d : ℕ → ℕ → Bool} {above : ℕ → Bool} {ys : Lis
       few-outside =
           crowded m n (length ys) outside x y i li (out-make i oi si) held goes (λ b c lb l lc k e q. y-once b c lb l lc k (out-pos (y b) (out-use (y b) e .1)) q)
 
-    -- no place of price 0 is in s: the bidders for its items are too few
+    -- no place at its floor is in s: the bidders for its items are too few
     inside : ℕ → Bool
     inside p = opens p && s p
 
@@ -213,7 +213,7 @@ module _ {m n : ℕ} {d : ℕ → ℕ → Bool} {above : ℕ → Bool} {ys : Lis
       in-pos zero e = absurd (not-both (s 0) e (none 0 (omega arith) (sorted .zero-make 0 (omega arith) (sorted .open-make 0 (omega arith) (λ c lc p q. omega arith)) null-out)))
       in-pos (suc p) e = omega arith
 
-      -- an item of s is of price above 0, so somebody has it
+      -- an item of s is above its floor, so somebody has it
       must : (p : ℕ) → p < suc m → inside p ≡ true → above p ≡ true
       must p l e = go (above p) refl
         where

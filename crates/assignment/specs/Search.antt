@@ -15,7 +15,7 @@ use Rattle.rule.specs.Assignment.{option}
 abbrev pub Open : List ℕ → ℕ → Type 0
 Open ys p = (c : ℕ) → c < length ys → 0 < p → option ys c ≡ p → ⊥
 
--- the open places; of these null and the items of price 0, and null and the items that nobody has
+-- the open places; of these null and the items at their floors, and null and the items that nobody has
 pub record Sorted (m n : ℕ) (above : ℕ → Bool) (ys : List ℕ) (x : ℕ → ℕ) (opens zeros spares : ℕ → Bool) : Type 0 where
   pub open-use : (p : ℕ) → p < suc m → opens p ≡ true → Open ys p
   pub open-make : (p : ℕ) → p < suc m → Open ys p → opens p ≡ true

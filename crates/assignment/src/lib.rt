@@ -378,7 +378,7 @@ fn complete(sets: &[u32; 64], nulls: u64, above: u32, n: usize) -> matching::Cov
     matching::cover(&own, must, above)
 }
 
-// The first assignment in order of the reports of 1 to 64 bidders, `above` being the items of price above 0: each bidder's item, or 0 for
+// The first assignment in order of the reports of 1 to 64 bidders, `above` being the items of price above the floor: each bidder's item, or 0 for
 // null. Where no assignment fits, and for more than 64 bidders, zeros.
 pub fn first(sets: &[u32; 64], nulls: u64, above: u32, bidders: usize) -> [u8; 64]
     ensures { λ r. ⌜ r ≡ assigned (now (sets .entry)) nulls above bidders ⌝ }

@@ -17,7 +17,7 @@ abbrev pub set : List ℕ → ℕ
 set [] = 0
 set (i ∷ is) = 2 ^ (i - 1) + set is
 
--- what a row gives: items, bidders, starting prices, floors and each bidder's bids; or, of so many items, those of price above 0 and each bidder's demanded items
+-- what a row gives: items, bidders, starting prices, floors and each bidder's bids; or, of so many items, those of price above the floor and each bidder's demanded items
 pub data Given : Type 0 where
   sheetAbove : (items bidders : ℕ) (start floors : List ℕ) (bids : List (List ℕ)) → Given
   demanded : (items : ℕ) (above : List ℕ) (demands : List (List ℕ)) → Given

@@ -117,7 +117,7 @@ pub null-under : passing 2 (weaklyUnderdemanded 1 1 (orNull 0 ∷ orNull 0 ∷ [
 unfolding computing
 null-under = refl
 
--- K2, which is example 1 of the paper: four items, of price above 0 the first and the last, and demands of {1}, {1}, {1}, {2}, {2}, {4}
+-- K2, which is example 1 of the paper: four items, above their floors the first and the last, and demands of {1}, {1}, {1}, {2}, {2}, {4}
 abbrev example-1 : List Demand
 example-1 = only 1 ∷ only 1 ∷ only 1 ∷ only 2 ∷ only 2 ∷ only 8 ∷ []
 
@@ -160,7 +160,7 @@ pub one-each : isAssignment 1 2 (1 ∷ 1 ∷ []) ≡ false
 unfolding computing
 one-each = refl
 
--- an item of price above 0 is let, though its one bidder likes null as well
+-- an item above its floor is let, though its one bidder likes null as well
 pub must-be-let : fits 1 1 (orNull 1 ∷ []) (0 ∷ []) ≡ false
 unfolding computing
 must-be-let = refl

@@ -211,7 +211,7 @@ module _ (m above : ℕ) (ds : List Demand) where
   unfolding excessSupply
   supply-bound = setOf-lt m (λ i. has above i && not (has (positiveExcessDemand m above ds) i))
 
--- an item of the falling set has a price above 0
+-- an item of the falling set has a price above its floor
 pub supply-above : (m : ℕ) (floors p : List ℕ) (ds : List Demand) (i : ℕ) → i < suc m → has (excessSupply m (aboveFloors m floors p) ds) i ≡ true
     → amount floors i < amount p i
 supply-above m floors p ds i l e =
