@@ -1,5 +1,5 @@
 -- `dewgneiss::dewgneiss_sealed_above` meets its contract. Assumes nothing.
-use mathlib.Core.Path.{_≡_, sym, ap, _∙_}
+use mathlib.Core.Path.{sym, ap, _∙_}
 use mathlib.Core.List.{[], _∷_}
 use Rattle.sets.specs.Lists.{places}
 use Rattle.auction.specs.declared.Closing.{Closing}
