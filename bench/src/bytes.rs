@@ -83,7 +83,7 @@ fn close(bytes: &[u8], out: &mut [u8; LONGEST]) -> u8 {
         return 5;
     }
     let mut closing = Closing { rounds: [0; 2], prices: vec![0; items], names: vec![0; bidders] };
-    search::sealed(items, bidders, start, bids, &mut closing);
+    search::sealed(items, bidders, start, &[0; 32][..items], bids, &mut closing);
     write_closing(out, closing.rounds, &closing.prices, &closing.names);
     0
 }

@@ -3,7 +3,7 @@
 use crate::bytes::LONGEST;
 use crate::race;
 use crate::record::{Calls, Record};
-use crate::sheets::random;
+use crate::sheets::{anywhere_above, random, random_above};
 use model::flows::{self, Demand};
 use model::live::{self, Answer, Call, Phase, Report};
 use model::random::Random;
@@ -14,16 +14,24 @@ extern "C" {
     fn bench_report(
         numbers: &mut [u64; 4],
         prices: &mut [u16; 32],
+        floors: &mut [u16; 32],
         sets: &mut [u32; 64],
         rounds: &mut [u32; 3],
         bidder: usize,
         null: bool,
         set: u32,
     ) -> u8;
-    fn bench_clear(numbers: &mut [u64; 4], prices: &mut [u16; 32], sets: &mut [u32; 64], rounds: &mut [u32; 3]) -> u8;
+    fn bench_clear(
+        numbers: &mut [u64; 4],
+        prices: &mut [u16; 32],
+        floors: &mut [u16; 32],
+        sets: &mut [u32; 64],
+        rounds: &mut [u32; 3],
+    ) -> u8;
     fn bench_end(
         numbers: &mut [u64; 4],
         prices: &mut [u16; 32],
+        floors: &mut [u16; 32],
         sets: &mut [u32; 64],
         rounds: &mut [u32; 3],
         moved: &mut [u32; 2],
@@ -32,6 +40,7 @@ extern "C" {
     fn bench_read(
         numbers: &[u64; 4],
         prices: &[u16; 32],
+        floors: &[u16; 32],
         sets: &[u32; 64],
         rounds: &[u32; 3],
         out: *mut u8,
@@ -39,12 +48,13 @@ extern "C" {
     ) -> u8;
 }
 
-/// A record in the lists that the proved calls take: items, bidders, who says null and who has reported; prices; item sets; rounds raised and
-/// lowered, and the phase.
+/// A record in the lists that the proved calls take: items, bidders, who says null and who has reported; prices; floors; item sets; rounds
+/// raised and lowered, and the phase.
 #[derive(Clone, PartialEq, Eq, Debug)]
 struct Lent {
     numbers: [u64; 4],
     prices: [u16; 32],
+    floors: [u16; 32],
     sets: [u32; 64],
     rounds: [u32; 3],
 }
@@ -55,6 +65,7 @@ impl Lent {
         Lent {
             numbers: [r.items.into(), r.bidders.into(), nulls, r.reported],
             prices: r.prices,
+            floors: r.floors,
             sets: r.reports.map(|report| report.items),
             rounds: [r.raised, r.lowered, r.phase as u32],
         }
@@ -67,6 +78,7 @@ impl Lent {
             items: items as u32,
             bidders: bidders as u32,
             prices: self.prices,
+            floors: self.floors,
             reports: std::array::from_fn(|b| Demand { null: nulls >> b & 1 == 1, items: self.sets[b] }),
             reported,
             phase: [Phase::Rising, Phase::Falling, Phase::Closed][phase as usize],
@@ -79,17 +91,19 @@ impl Lent {
 impl Calls for Lent {
     // SAFETY, of each: the lists are lent to the call alone, and may hold anything.
     fn report(&mut self, bidder: u32, report: Report) -> u8 {
-        let Lent { numbers, prices, sets, rounds } = self;
-        unsafe { bench_report(numbers, prices, sets, rounds, bidder as usize, report.null, report.items) }
+        let Lent { numbers, prices, floors, sets, rounds } = self;
+        unsafe { bench_report(numbers, prices, floors, sets, rounds, bidder as usize, report.null, report.items) }
     }
 
     fn clear(&mut self) -> u8 {
-        unsafe { bench_clear(&mut self.numbers, &mut self.prices, &mut self.sets, &mut self.rounds) }
+        let Lent { numbers, prices, floors, sets, rounds } = self;
+        unsafe { bench_clear(numbers, prices, floors, sets, rounds) }
     }
 
     fn end(&mut self) -> Answer {
+        let Lent { numbers, prices, floors, sets, rounds } = self;
         let mut moved = [0; 2];
-        let number = unsafe { bench_end(&mut self.numbers, &mut self.prices, &mut self.sets, &mut self.rounds, &mut moved) };
+        let number = unsafe { bench_end(numbers, prices, floors, sets, rounds, &mut moved) };
         match (number, moved) {
             (0, [0, _]) => Answer::Closed,
             (0, [1, set]) => Answer::Moved(Kind::Raised, set),
@@ -99,7 +113,8 @@ impl Calls for Lent {
     }
 
     fn read(&self, out: &mut [u8]) -> u8 {
-        unsafe { bench_read(&self.numbers, &self.prices, &self.sets, &self.rounds, out.as_mut_ptr(), out.len()) }
+        let Lent { numbers, prices, floors, sets, rounds } = self;
+        unsafe { bench_read(numbers, prices, floors, sets, rounds, out.as_mut_ptr(), out.len()) }
     }
 }
 
@@ -137,8 +152,8 @@ struct Path {
 
 /// Plays the sheet by the proved calls to its close. Of the rising rounds, and of the falling ones, each is as likely to be kept.
 fn play(s: &Sheet, r: &mut Random) -> Path {
-    let opened = live::Record::open(s.items as u32, s.bidders as u32, &s.start).expect("the sheet is within the limits");
-    let mut at = Lent::of(&opened);
+    let opened = live::Record::open_above(s.items as u32, s.bidders as u32, &s.start, &s.floors);
+    let mut at = Lent::of(&opened.expect("the sheet is within the limits"));
     let (mut rising, mut falling) = (at.clone(), at.clone());
     loop {
         for (bidder, report) in (1..).zip(flows::demands(s, &at.prices)) {
@@ -201,30 +216,37 @@ fn times(turns: usize, records: &[(Lent, Call)]) -> [f64; 2] {
     .map(|t| t / 20.0)
 }
 
-/// The table; how many answers were compared.
-pub fn table(turns: usize) -> usize {
-    let mut r = Random::new(11);
-    let count = if turns == 0 { 3 } else { 10 };
-    let paths: Vec<Path> = (0..count).map(|_| play(&random(32, 64, TOP, |r| r.amount(TOP), &mut r), &mut r)).collect();
+/// Every kind of call, on records of these paths.
+fn calls(paths: &[Path]) -> [(&'static str, Vec<(Lent, Call)>); 6] {
     let on = |call: Call, at: fn(&Path) -> &Lent| paths.iter().map(|p| (at(p).clone(), call)).collect();
-    let cases: [(&str, Vec<(Lent, Call)>); 6] = [
+    [
         ("report, the last of a round", paths.iter().map(|p| before_last(&p.rising)).collect()),
         ("clear, with every report in", on(Call::Clear, |p| &p.rising)),
         ("end, prices go up", on(Call::End, |p| &p.rising)),
         ("end, prices go down", on(Call::End, |p| &p.falling)),
         ("end, the auction closes", on(Call::End, |p| &p.last)),
         ("read", on(Call::Read { room: LONGEST }, |p| &p.closed)),
-    ];
+    ]
+}
+
+/// The table; how many answers were compared. On sheets with floors they are compared only.
+pub fn table(turns: usize) -> usize {
+    let mut r = Random::new(11);
+    let count = if turns == 0 { 3 } else { 10 };
+    let paths: Vec<Path> = (0..count).map(|_| play(&random(32, 64, TOP, |r| r.amount(TOP), &mut r), &mut r)).collect();
+    let above: Vec<Path> = (0..count).map(|_| play(&random_above(0, anywhere_above, &mut r), &mut r)).collect();
+    let mut compared = 0;
+    for (_, records) in calls(&paths).iter().chain(&calls(&above)) {
+        records.iter().for_each(|(at, call)| compare(at, *call));
+        compared += records.len();
+    }
     if turns > 0 {
         println!("\n| live calls on a record of 32 items and 64 bidders | proved, ns | plain Rust, ns | ratio |");
         println!("|---|---|---|---|");
-    }
-    for (name, records) in &cases {
-        records.iter().for_each(|(at, call)| compare(at, *call));
-        if turns > 0 {
-            let [proved, plain] = times(turns, records);
+        for (name, records) in calls(&paths) {
+            let [proved, plain] = times(turns, &records);
             println!("| {name} | {proved:.0} | {plain:.0} | {:.2} |", proved / plain);
         }
     }
-    cases.len() * count
+    compared
 }

@@ -36,7 +36,8 @@ fn main() {
     let turns = if quick { 0 } else { 25 };
     let mut measured = sealed::Measured::default();
     let matched = matching::table(turns);
-    sealed::kinds(turns, &mut measured);
+    let worst = sealed::kinds(turns, &mut measured);
+    sealed::floors(worst, turns, &mut measured);
     sealed::growth(turns, &mut measured);
     let compared = matched + measured.compared + live::table(turns) + bytes::table(turns) + reasons::table(turns);
     if quick {

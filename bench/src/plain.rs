@@ -108,12 +108,19 @@ pub fn rising(d: &Demands) -> u32 {
     excess_demand(&own)
 }
 
-pub fn above_zero(prices: &[u16; 32]) -> u32 {
-    (0..32).filter(|&i| prices[i] > 0).fold(0, |s, i| s | 1 << i)
+/// A price, or a floor, for each item, and zeros past the items.
+pub fn places(amounts: &[u16]) -> [u16; 32] {
+    let mut all = [0; 32];
+    all[..amounts.len()].copy_from_slice(amounts);
+    all
 }
 
-pub fn falling(d: &Demands, prices: &[u16; 32]) -> u32 {
-    let above = above_zero(prices);
+pub fn above_floors(floors: &[u16; 32], prices: &[u16; 32]) -> u32 {
+    (0..32).filter(|&i| prices[i] > floors[i]).fold(0, |s, i| s | 1 << i)
+}
+
+pub fn falling(d: &Demands, floors: &[u16; 32], prices: &[u16; 32]) -> u32 {
+    let above = above_floors(floors, prices);
     above & !excess_demand(&d.items.map(|set| set & above))
 }
 
@@ -153,9 +160,8 @@ pub struct Closing {
 
 /// The sealed auction of a sheet within the limits, round by round.
 #[inline(never)]
-pub fn sealed(items: usize, bidders: usize, start: &[u16], bids: &[u16], closing: &mut Closing) {
-    let mut p = [0; 32];
-    p[..items].copy_from_slice(start);
+pub fn sealed(items: usize, bidders: usize, start: &[u16], floors: &[u16], bids: &[u16], closing: &mut Closing) {
+    let (mut p, floors) = (places(start), places(floors));
     closing.rounds = [0; 2];
     let mut d = demands(&p, bids, items);
     let mut set = rising(&d);
@@ -165,13 +171,13 @@ pub fn sealed(items: usize, bidders: usize, start: &[u16], bids: &[u16], closing
         d = demands(&p, bids, items);
         set = rising(&d);
     }
-    set = falling(&d, &p);
+    set = falling(&d, &floors, &p);
     while set != 0 {
         (0..32).filter(|&i| set >> i & 1 == 1).for_each(|i| p[i] -= 1);
         closing.rounds[1] += 1;
         d = demands(&p, bids, items);
-        set = falling(&d, &p);
+        set = falling(&d, &floors, &p);
     }
     closing.prices.copy_from_slice(&p[..items]);
-    closing.names.copy_from_slice(&assign(&d, above_zero(&p), bidders)[..bidders]);
+    closing.names.copy_from_slice(&assign(&d, above_floors(&floors, &p), bidders)[..bidders]);
 }

@@ -1,7 +1,7 @@
 //! Sheets of reasons, whose rounds are all played, beside plain Rust that plays the same rounds and writes the same lines.
 
 use crate::bytes::put;
-use crate::plain::{demands, falling, rising, Demands};
+use crate::plain::{demands, falling, places, rising, Demands};
 use crate::race;
 use crate::sheets::{longest, random};
 use dewgneiss::{reason_sheet_into, LONGEST_REASONS};
@@ -18,15 +18,14 @@ fn bidders(d: &Demands, count: usize, set: u32, falls: bool) -> u64 {
 /// The lines at the front of `out`; how many bytes they are.
 #[inline(never)]
 fn plain(s: &Sheet, out: &mut [u8]) -> usize {
-    let mut p = [0; 32];
-    p[..s.items].copy_from_slice(&s.start);
+    let (mut p, floors) = (places(&s.start), places(&s.floors));
     let mut falls = false;
     for (k, line) in out.chunks_exact_mut(31).enumerate() {
         let d = demands(&p, &s.bids, s.items);
         let mut set = if falls { 0 } else { rising(&d) };
         if set == 0 {
             falls = true;
-            set = falling(&d, &p);
+            set = falling(&d, &floors, &p);
         }
         if set == 0 {
             return 31 * k;

@@ -1,6 +1,6 @@
 //! The live auction once more in plain Rust, as a programmer would write it: a record that each call changes in place.
 
-use crate::plain::{above_zero, falling, rising, Demands};
+use crate::plain::{above_floors, falling, rising, Demands};
 use crate::{bytes, search};
 use model::live::{self, Answer, Phase, Report};
 use model::{Kind, TOP};
@@ -18,6 +18,7 @@ pub struct Record {
     items: usize,
     bidders: usize,
     prices: [u16; 32],
+    floors: [u16; 32],
     reports: Demands,
     reported: u64,
     phase: Phase,
@@ -32,6 +33,7 @@ impl Record {
             items: r.items as usize,
             bidders: r.bidders as usize,
             prices: r.prices,
+            floors: r.floors,
             reports: Demands { items: r.reports.map(|report| report.items), nulls },
             reported: r.reported,
             phase: r.phase,
@@ -49,7 +51,7 @@ impl Record {
     }
 
     fn falling_set(&self) -> u32 {
-        falling(&self.reports, &self.prices)
+        falling(&self.reports, &self.floors, &self.prices)
     }
 
     /// Number 11 does not apply.
@@ -58,6 +60,10 @@ impl Record {
             return false;
         }
         if self.prices.iter().any(|&p| p > TOP) || self.prices[self.items..].iter().any(|&p| p != 0) {
+            return false;
+        }
+        // No floor is above its price; so none is above 4,095, and those past the items are zero.
+        if self.prices.iter().zip(&self.floors).any(|(price, floor)| price < floor) {
             return false;
         }
         // A report stands in the place of each bidder who has reported, and in no other.
@@ -71,11 +77,12 @@ impl Record {
         if wrong != 0 || says != self.reported || self.reported & !self.everybody() != 0 {
             return false;
         }
-        let sum: u32 = self.prices.iter().map(|&p| u32::from(p)).sum();
+        let total = |amounts: &[u16; 32]| amounts.iter().map(|&x| u32::from(x)).sum::<u32>();
+        let sum = total(&self.prices);
         let most = u64::from(TOP) * self.items as u64;
         let within = u64::from(self.raised) <= most && u64::from(sum) + u64::from(self.lowered) <= most;
         match self.phase {
-            Phase::Rising => self.lowered == 0 && self.raised <= sum,
+            Phase::Rising => self.lowered == 0 && self.raised <= sum - total(&self.floors),
             Phase::Falling => within,
             Phase::Closed => within && self.reported == self.everybody() && self.rising_set() == 0 && self.falling_set() == 0,
         }
@@ -170,7 +177,7 @@ impl Calls for Record {
         if self.phase != Phase::Closed {
             return 15;
         }
-        let names = search::first(&self.reports, above_zero(&self.prices), self.bidders, &mut 0);
+        let names = search::first(&self.reports, above_floors(&self.floors, &self.prices), self.bidders, &mut 0);
         let rounds = [self.raised, self.lowered];
         if !bytes::write_closing(out, rounds, &self.prices[..self.items], &names[..self.bidders]) {
             return 3;

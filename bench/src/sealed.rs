@@ -1,11 +1,14 @@
 //! The sealed auction beside plain Rust of the same search, and beside plain Rust that plays the rounds.
 
 use crate::plain::Closing;
-use crate::sheets::{by, longest, random, worst};
+use crate::sheets::{anywhere_above, by, from_floors, longest, random, random_above, worst};
 use crate::{plain, race, search};
 use model::random::Random;
 use model::{Sheet, TOP};
 use std::hint::black_box;
+
+/// How the proved code closes a sheet: without floors, or with them.
+type Call = fn(&Sheet, &mut Closing);
 
 fn closing(s: &Sheet) -> Closing {
     Closing { rounds: [0; 2], prices: vec![0; s.items], names: vec![0; s.bidders] }
@@ -16,16 +19,23 @@ fn proved(s: &Sheet, Closing { rounds, prices, names }: &mut Closing) {
     dewgneiss::sealed_into(items, bidders, &s.start, &s.bids, rounds, prices, names).expect("the sheet is within the limits");
 }
 
+/// The same with floors.
+fn proved_above(s: &Sheet, Closing { rounds, prices, names }: &mut Closing) {
+    let (items, bidders) = (s.items as u32, s.bidders as u32);
+    dewgneiss::sealed_above_into(items, bidders, &s.start, &s.floors, &s.bids, rounds, prices, names)
+        .expect("the sheet is within the limits");
+}
+
 fn by_search(s: &Sheet, c: &mut Closing) {
-    black_box(search::sealed(s.items, s.bidders, &s.start, &s.bids, c));
+    black_box(search::sealed(s.items, s.bidders, &s.start, &s.floors, &s.bids, c));
 }
 
 fn by_rounds(s: &Sheet, c: &mut Closing) {
-    plain::sealed(s.items, s.bidders, &s.start, &s.bids, c);
+    plain::sealed(s.items, s.bidders, &s.start, &s.floors, &s.bids, c);
 }
 
 /// Compares the three closes of every sheet; the mean of their rounds.
-fn compare(sheets: &[Sheet]) -> f64 {
+fn compare(sheets: &[Sheet], proved: Call) -> f64 {
     let mut rounds = 0;
     for s in sheets {
         let [mut a, mut b, mut c] = [closing(s), closing(s), closing(s)];
@@ -47,7 +57,7 @@ struct Times {
     rounds: f64,
 }
 
-fn times(turns: usize, sheets: &[Sheet]) -> Times {
+fn times(turns: usize, sheets: &[Sheet], proved: Call) -> Times {
     let mut most = 0f64;
     let mut sum = [0.0; 3];
     for s in sheets {
@@ -120,8 +130,8 @@ fn several(count: usize, mut sheet: impl FnMut() -> Sheet) -> Vec<Sheet> {
     (0..count).map(|_| sheet()).collect()
 }
 
-/// Every kind of sheet.
-pub fn kinds(turns: usize, measured: &mut Measured) {
+/// Every kind of sheet without floors; the worst that were found.
+pub fn kinds(turns: usize, measured: &mut Measured) -> Vec<Sheet> {
     let mut r = Random::new(8);
     let r = &mut r;
     let steps = if turns == 0 { 100 } else { 10_000 };
@@ -143,16 +153,37 @@ pub fn kinds(turns: usize, measured: &mut Measured) {
         ("bidder plus item", vec![by(|b, i| 20 * b + 60 * i)]),
     ];
     let seeds: Vec<Sheet> = kinds.iter().map(|(_, sheets)| sheets[0].clone()).collect();
-    kinds.push(("the worst found from each of the above", seeds.into_iter().map(|s| worst(s, steps, r)).collect()));
+    let worst: Vec<Sheet> = seeds.into_iter().map(|s| worst(s, steps, r)).collect();
+    kinds.push(("the worst found from each of the above", worst.clone()));
+    table("sheets of 32 items and 64 bidders", kinds, proved, turns, measured);
+    worst
+}
+
+/// Random sheets with floors, and the worst that were found without, each starting price made a floor.
+pub fn floors(worst: Vec<Sheet>, turns: usize, measured: &mut Measured) {
+    let mut r = Random::new(103);
+    let r = &mut r;
+    let kinds = vec![
+        ("random, floors anywhere, from the floors", several(20, || random_above(0, |floor, _| floor, r))),
+        ("random, floors anywhere, from anywhere above", several(20, || random_above(0, anywhere_above, r))),
+        ("random, floors of 3,800 and more, from the floors", several(20, || random_above(3_800, |floor, _| floor, r))),
+        ("random, floors of 3,800 and more, from anywhere above", several(20, || random_above(3_800, anywhere_above, r))),
+        ("the worst found without floors, each start made a floor", worst.into_iter().map(from_floors).collect()),
+    ];
+    table("sheets of 32 items with floors and 64 bidders", kinds, proved_above, turns, measured);
+}
+
+/// The table of some kinds of sheets.
+fn table(what: &str, kinds: Vec<(&'static str, Vec<Sheet>)>, proved: Call, turns: usize, measured: &mut Measured) {
     if turns > 0 {
-        println!("\n| sheets of 32 items and 64 bidders | rounds | proved, µs | the most, µs | plain Rust, same search, µs | ratio | plain Rust by rounds, µs | times as fast |");
+        println!("\n| {what} | rounds | proved, µs | the most, µs | plain Rust, same search, µs | ratio | plain Rust by rounds, µs | times as fast |");
         println!("|---|---|---|---|---|---|---|---|");
     }
     for (name, sheets) in kinds {
-        let rounds = compare(&sheets);
+        let rounds = compare(&sheets, proved);
         measured.compared += sheets.len();
         if turns > 0 {
-            let t = times(turns, &sheets);
+            let t = times(turns, &sheets, proved);
             measured.add(name, &t);
             println!(
                 "| {name} | {rounds:.0} | {:.1} | {:.1} | {:.1} | {:.2} | {:.0} | {:.0} |",
@@ -179,10 +210,10 @@ pub fn growth(turns: usize, measured: &mut Measured) {
     let tops = [0, 1, 3, 15, 63, 255, 1023, TOP].map(|top| ("top bid", 32, 64, top));
     for (grows, items, bidders, top) in items.into_iter().chain(bidders).chain(tops) {
         let sheets = several(5, || random(items, bidders, top, |_| 0, &mut r));
-        compare(&sheets);
+        compare(&sheets, proved);
         measured.compared += sheets.len();
         if turns > 0 {
-            let t = times(turns, &sheets);
+            let t = times(turns, &sheets, proved);
             measured.most = measured.most.max(t.most);
             println!("| more {grows} | {items} | {bidders} | {top} | {:.1} | {:.1} | {:.0} |", t.proved, t.search, t.rounds);
         }

@@ -1,5 +1,6 @@
 //! The proved code's search once more in plain Rust, as fast as we could write it: the items put in over the bidders, the fall to the least
-//! prices, the turn from there, and the first assignment by reachability.
+//! prices, the rise from there to the floors, which is the close, and to the start, which is the turn, and the first assignment by
+//! reachability.
 //!
 //! Numbers are signed and of 16 bits: every x86-64 processor has an instruction for the smaller, and for the larger, of eight such numbers at
 //! once. Lines are filled up to whole eights, so that no loop has places left over.
@@ -7,7 +8,7 @@
 // By index over several arrays the compiler takes eight places at a time.
 #![allow(clippy::needless_range_loop)]
 
-use crate::plain::{above_zero, complete, Closing, Demands};
+use crate::plain::{above_floors, complete, places, Closing, Demands};
 
 /// No distance is as long.
 const FAR: i16 = 16_384;
@@ -192,6 +193,23 @@ impl Outcome {
             *price -= d;
         }
     }
+
+    /// The least prices rise to the least from a base up: who holds an item that the base lifts is put in again. Nothing has to fall: one
+    /// bidder more over least prices leaves them least.
+    fn rise(&mut self, base: &[u16], table: &Table, turns: &mut u32) {
+        let mut waiting = 0u64;
+        for (i, &low) in base.iter().enumerate() {
+            if self.prices[i] < low as i16 {
+                self.prices[i] = low as i16;
+                waiting |= alone(self.own[i]);
+                self.own[i] = 0;
+            }
+        }
+        while waiting != 0 {
+            self.put_in(table, waiting.trailing_zeros() as usize + 1, turns);
+            waiting &= waiting - 1;
+        }
+    }
 }
 
 /// Prices that balance: the items are put in over the bidders, whose prices are then their surpluses.
@@ -211,24 +229,13 @@ fn balance(table: &Table, transposed: &Table, turns: &mut u32) -> Outcome {
     balanced
 }
 
-/// The closing prices, and from there the prices at the turn.
-fn ends(start: &[u16], table: &Table, transposed: &Table, turns: &mut u32) -> ([i16; 64], [i16; 64]) {
+/// The closing prices, and from there the prices at the turn. The proved code finds both from the least prices from 0 up.
+fn ends(start: &[u16], floors: &[u16], table: &Table, transposed: &Table, turns: &mut u32) -> ([i16; 64], [i16; 64]) {
     let mut at = balance(table, transposed, turns);
     at.fall(table, transposed.items, turns);
+    at.rise(floors, table, turns);
     let close = at.prices;
-    let mut waiting = 0u64;
-    for (i, &s) in start.iter().enumerate() {
-        if at.prices[i] < s as i16 {
-            at.prices[i] = s as i16;
-            waiting |= alone(at.own[i]);
-            at.own[i] = 0;
-        }
-    }
-    // Nothing has to fall: one bidder more over least prices leaves them least.
-    while waiting != 0 {
-        at.put_in(table, waiting.trailing_zeros() as usize + 1, turns);
-        waiting &= waiting - 1;
-    }
+    at.rise(start, table, turns);
     (close, at.prices)
 }
 
@@ -376,14 +383,14 @@ fn most_over(a: impl IntoIterator<Item = i16>, b: impl IntoIterator<Item = i16>)
 
 /// The sealed auction of a sheet within the limits, and how many steps its searches took.
 #[inline(never)]
-pub fn sealed(items: usize, bidders: usize, start: &[u16], bids: &[u16], closing: &mut Closing) -> u32 {
+pub fn sealed(items: usize, bidders: usize, start: &[u16], floors: &[u16], bids: &[u16], closing: &mut Closing) -> u32 {
     let mut turns = 0;
     let (table, transposed) = (Table::of(bids, items), Table::transposed(bids, items, bidders));
-    let (close, turn) = ends(start, &table, &transposed, &mut turns);
+    let (close, turn) = ends(start, floors, &table, &transposed, &mut turns);
     closing.rounds = [most_over(turn, start.iter().map(|&s| s as i16)), most_over(turn, close)];
     let prices: [u16; 32] = std::array::from_fn(|i| close[i] as u16);
     closing.prices.copy_from_slice(&prices[..items]);
-    let names = first(&demands(&close, &table, bidders), above_zero(&prices), bidders, &mut turns);
+    let names = first(&demands(&close, &table, bidders), above_floors(&places(floors), &prices), bidders, &mut turns);
     closing.names.copy_from_slice(&names[..bidders]);
     turns
 }

@@ -8,30 +8,47 @@ use model::{Sheet, TOP};
 /// Bids from 0 to `top`, starting prices as `start` gives them.
 pub fn random(items: usize, bidders: usize, top: u16, start: impl Fn(&mut Random) -> u16, r: &mut Random) -> Sheet {
     let starts = (0..items).map(|_| start(r)).collect();
-    Sheet { items, bidders, start: starts, bids: (0..items * bidders).map(|_| r.amount(top)).collect() }
+    Sheet::of(starts, bidders, (0..items * bidders).map(|_| r.amount(top)).collect())
+}
+
+/// 32 items with floors from `low` to 4,095 and 64 bidders with bids from 0, starting prices as `start` gives them for a floor.
+pub fn random_above(low: u16, start: impl Fn(u16, &mut Random) -> u16, r: &mut Random) -> Sheet {
+    let floors: Vec<u16> = (0..32).map(|_| low + r.amount(TOP - low)).collect();
+    let starts = floors.iter().map(|&floor| start(floor, r)).collect();
+    Sheet::of(starts, 64, (0..64 * 32).map(|_| r.amount(TOP)).collect()).above(&floors)
+}
+
+/// A price from the floor up.
+pub fn anywhere_above(floor: u16, r: &mut Random) -> u16 {
+    floor + r.amount(TOP - floor)
+}
+
+/// The sheet with each starting price made a floor.
+pub fn from_floors(s: Sheet) -> Sheet {
+    Sheet { floors: s.start.clone(), ..s }
 }
 
 /// 32 items and 64 bidders by a rule, both counted from 0, from prices of 0.
 pub fn by(mut bid: impl FnMut(usize, usize) -> usize) -> Sheet {
     let bids = (0..64 * 32).map(|k| bid(k / 32, k % 32) as u16).collect();
-    Sheet { items: 32, bidders: 64, start: vec![0; 32], bids }
+    Sheet::of(vec![0; 32], 64, bids)
 }
 
 /// 4,095 rounds up and as many down: everybody wants the first half, from 0, and nobody the second half, from 4,095.
 pub fn longest() -> Sheet {
     let line: Vec<u16> = (0..32).map(|i| if i < 16 { TOP } else { 0 }).collect();
     let start = line.iter().map(|&x| TOP - x).collect();
-    Sheet { items: 32, bidders: 64, start, bids: line.repeat(64) }
+    Sheet::of(start, 64, line.repeat(64))
 }
 
 /// How much the searches of a sheet have to do, by the plain Rust of the same search.
 fn work(s: &Sheet) -> u32 {
     let mut closing = Closing { rounds: [0; 2], prices: vec![0; s.items], names: vec![0; s.bidders] };
-    search::sealed(s.items, s.bidders, &s.start, &s.bids, &mut closing)
+    search::sealed(s.items, s.bidders, &s.start, &s.floors, &s.bids, &mut closing)
 }
 
-/// A sheet from which no change tried makes the searches longer: numbers are moved, drawn again and swapped, bidders and items copied and
-/// swapped, and what makes more work stays.
+/// A sheet without floors from which no change tried makes the searches longer: numbers are moved, drawn again and swapped, bidders and
+/// items copied and swapped, and what makes more work stays.
 pub fn worst(from: Sheet, steps: usize, r: &mut Random) -> Sheet {
     let mut worst = from;
     let mut most = work(&worst);

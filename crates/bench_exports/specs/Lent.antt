@@ -21,12 +21,13 @@ phaseNumber Falling = 1
 phaseNumber Closed = 2
 
 -- the record that stands in lists: the numbers are items, bidders, who says null, who has reported; the rounds raised, lowered, the phase
-unfoldable pub recordIn : (numbers prices sets rounds : List ℕ) → Auction
-recordIn numbers prices sets rounds =
+unfoldable pub recordIn : (numbers prices floors sets rounds : List ℕ) → Auction
+recordIn numbers prices floors sets rounds =
     record {
       items = getD numbers 0 0;
       bidders = getD numbers 1 0;
       prices = prices;
+      floors = floors;
       sets = sets;
       nulls = getD numbers 2 0;
       reported = getD numbers 3 0;
@@ -36,9 +37,10 @@ recordIn numbers prices sets rounds =
     }
 
 -- the lists that a record is left in
-pub record StandsIn (r : Auction) (numbers prices sets rounds : List ℕ) : Type 0 where
+pub record StandsIn (r : Auction) (numbers prices floors sets rounds : List ℕ) : Type 0 where
   pub in-numbers : numbers ≡ r .items ∷ r .bidders ∷ r .nulls ∷ r .reported ∷ []
   pub in-prices : prices ≡ r .prices
+  pub in-floors : floors ≡ r .floors
   pub in-sets : sets ≡ r .sets
   pub in-rounds : rounds ≡ r .raised ∷ r .lowered ∷ phaseNumber (r .phase) ∷ []
 

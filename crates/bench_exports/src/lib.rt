@@ -1,5 +1,5 @@
 // The live calls on a record in lent lists, and the writing of a closing sheet, for the benchmark to link. A record is lent as its numbers (items,
-// bidders, the bidders who say null, the bidders who have reported), its prices, its item sets, and its rounds (raised, lowered, and the phase:
+// bidders, the bidders who say null, the bidders who have reported), its prices, its floors, its item sets, and its rounds (raised, lowered, and the phase:
 // 0 rising, 1 falling, 2 closed); each call leaves the next record there.
 use live::Auction;
 use live::Ended;
@@ -36,16 +36,24 @@ fn phase_number(phase: Phase) -> u32
 }
 
 // The record that stands in the lists.
-fn record_in(numbers: &[u64; 4], prices: &[u16; 32], sets: &[u32; 64], rounds: &[u32; 3]) -> Auction
-    ensures { λ r. ⌜ r ≡ recordIn (now (numbers .entry)) (now (prices .entry)) (now (sets .entry)) (now (rounds .entry)) ⌝ }
+fn record_in(
+    numbers: &[u64; 4],
+    prices: &[u16; 32],
+    floors: &[u16; 32],
+    sets: &[u32; 64],
+    rounds: &[u32; 3],
+) -> Auction
+    ensures { λ r. ⌜ r ≡ recordIn (now (numbers .entry)) (now (prices .entry)) (now (floors .entry)) (now (sets .entry)) (now (rounds .entry)) ⌝ }
 {
     let prices = *prices;
+    let floors = *floors;
     let sets = *sets;
     let phase = phase_of(rounds[2]);
     Auction {
         items: numbers[0] as usize,
         bidders: numbers[1] as usize,
         prices,
+        floors,
         sets,
         nulls: numbers[2],
         reported: numbers[3],
@@ -60,12 +68,14 @@ fn leave(
     auction: Auction,
     numbers: &mut [u64; 4],
     prices: &mut [u16; 32],
+    floors: &mut [u16; 32],
     sets: &mut [u32; 64],
     rounds: &mut [u32; 3],
 )
-    ensures { λ _. ⌜ StandsIn auction (now (numbers .exit)) (now (prices .exit)) (now (sets .exit)) (now (rounds .exit)) ⌝ }
+    ensures { λ _. ⌜ StandsIn auction (now (numbers .exit)) (now (prices .exit)) (now (floors .exit)) (now (sets .exit)) (now (rounds .exit)) ⌝ }
 {
     let next_prices = auction.prices;
+    let next_floors = auction.floors;
     let next_sets = auction.sets;
     let phase = auction.phase;
     let coded = phase_number(phase);
@@ -76,6 +86,7 @@ fn leave(
         auction.reported,
     ];
     *prices = next_prices;
+    *floors = next_floors;
     *sets = next_sets;
     *rounds = [auction.raised, auction.lowered, coded];
 }
@@ -85,19 +96,20 @@ fn leave(
 pub extern "C" fn bench_report(
     numbers: &mut [u64; 4],
     prices: &mut [u16; 32],
+    floors: &mut [u16; 32],
     sets: &mut [u32; 64],
     rounds: &mut [u32; 3],
     bidder: usize,
     null: bool,
     set: u32,
 ) -> u8
-    ensures number { λ r. ⌜ r ≡ report (recordIn (now (numbers .entry)) (now (prices .entry)) (now (sets .entry)) (now (rounds .entry))) bidder (saying null set) .number ⌝ }
-    ensures record { λ _. ⌜ StandsIn (report (recordIn (now (numbers .entry)) (now (prices .entry)) (now (sets .entry)) (now (rounds .entry))) bidder (saying null set) .next)
-        (now (numbers .exit)) (now (prices .exit)) (now (sets .exit)) (now (rounds .exit)) ⌝ }
+    ensures number { λ r. ⌜ r ≡ report (recordIn (now (numbers .entry)) (now (prices .entry)) (now (floors .entry)) (now (sets .entry)) (now (rounds .entry))) bidder (saying null set) .number ⌝ }
+    ensures record { λ _. ⌜ StandsIn (report (recordIn (now (numbers .entry)) (now (prices .entry)) (now (floors .entry)) (now (sets .entry)) (now (rounds .entry))) bidder (saying null set) .next)
+        (now (numbers .exit)) (now (prices .exit)) (now (floors .exit)) (now (sets .exit)) (now (rounds .exit)) ⌝ }
 {
-    let reported = record_in(numbers, prices, sets, rounds).report(bidder, null, set);
+    let reported = record_in(numbers, prices, floors, sets, rounds).report(bidder, null, set);
     let next = reported.next;
-    leave(next, numbers, prices, sets, rounds);
+    leave(next, numbers, prices, floors, sets, rounds);
     reported.number
 }
 
@@ -106,16 +118,17 @@ pub extern "C" fn bench_report(
 pub extern "C" fn bench_clear(
     numbers: &mut [u64; 4],
     prices: &mut [u16; 32],
+    floors: &mut [u16; 32],
     sets: &mut [u32; 64],
     rounds: &mut [u32; 3],
 ) -> u8
-    ensures number { λ r. ⌜ r ≡ clear (recordIn (now (numbers .entry)) (now (prices .entry)) (now (sets .entry)) (now (rounds .entry))) .number ⌝ }
-    ensures record { λ _. ⌜ StandsIn (clear (recordIn (now (numbers .entry)) (now (prices .entry)) (now (sets .entry)) (now (rounds .entry))) .next)
-        (now (numbers .exit)) (now (prices .exit)) (now (sets .exit)) (now (rounds .exit)) ⌝ }
+    ensures number { λ r. ⌜ r ≡ clear (recordIn (now (numbers .entry)) (now (prices .entry)) (now (floors .entry)) (now (sets .entry)) (now (rounds .entry))) .number ⌝ }
+    ensures record { λ _. ⌜ StandsIn (clear (recordIn (now (numbers .entry)) (now (prices .entry)) (now (floors .entry)) (now (sets .entry)) (now (rounds .entry))) .next)
+        (now (numbers .exit)) (now (prices .exit)) (now (floors .exit)) (now (sets .exit)) (now (rounds .exit)) ⌝ }
 {
-    let cleared = record_in(numbers, prices, sets, rounds).clear();
+    let cleared = record_in(numbers, prices, floors, sets, rounds).clear();
     let next = cleared.next;
-    leave(next, numbers, prices, sets, rounds);
+    leave(next, numbers, prices, floors, sets, rounds);
     cleared.number
 }
 
@@ -151,19 +164,20 @@ fn put_move(ended: Ended, moved: &mut [u32; 2])
 pub extern "C" fn bench_end(
     numbers: &mut [u64; 4],
     prices: &mut [u16; 32],
+    floors: &mut [u16; 32],
     sets: &mut [u32; 64],
     rounds: &mut [u32; 3],
     moved: &mut [u32; 2],
 ) -> u8
-    ensures number { λ r. ⌜ r ≡ endNumberOf (endAnswer (recordIn (now (numbers .entry)) (now (prices .entry)) (now (sets .entry)) (now (rounds .entry)))) ⌝ }
-    ensures moved { λ _. ⌜ now (moved .exit) ≡ moveIn (endAnswer (recordIn (now (numbers .entry)) (now (prices .entry)) (now (sets .entry)) (now (rounds .entry)))) ⌝ }
-    ensures record { λ _. ⌜ StandsIn (endNext (recordIn (now (numbers .entry)) (now (prices .entry)) (now (sets .entry)) (now (rounds .entry))))
-        (now (numbers .exit)) (now (prices .exit)) (now (sets .exit)) (now (rounds .exit)) ⌝ }
+    ensures number { λ r. ⌜ r ≡ endNumberOf (endAnswer (recordIn (now (numbers .entry)) (now (prices .entry)) (now (floors .entry)) (now (sets .entry)) (now (rounds .entry)))) ⌝ }
+    ensures moved { λ _. ⌜ now (moved .exit) ≡ moveIn (endAnswer (recordIn (now (numbers .entry)) (now (prices .entry)) (now (floors .entry)) (now (sets .entry)) (now (rounds .entry)))) ⌝ }
+    ensures record { λ _. ⌜ StandsIn (endNext (recordIn (now (numbers .entry)) (now (prices .entry)) (now (floors .entry)) (now (sets .entry)) (now (rounds .entry))))
+        (now (numbers .exit)) (now (prices .exit)) (now (floors .exit)) (now (sets .exit)) (now (rounds .exit)) ⌝ }
 {
-    let step = record_in(numbers, prices, sets, rounds).end();
+    let step = record_in(numbers, prices, floors, sets, rounds).end();
     let next = step.next;
     let ended = step.ended;
-    leave(next, numbers, prices, sets, rounds);
+    leave(next, numbers, prices, floors, sets, rounds);
     put_move(ended, moved);
     end_number(ended)
 }
@@ -173,14 +187,15 @@ pub extern "C" fn bench_end(
 pub extern "C" fn bench_read(
     numbers: &[u64; 4],
     prices: &[u16; 32],
+    floors: &[u16; 32],
     sets: &[u32; 64],
     rounds: &[u32; 3],
     out: &mut [u8],
 ) -> u8
-    ensures number { λ r. ⌜ r ≡ readNumber (recordIn (now (numbers .entry)) (now (prices .entry)) (now (sets .entry)) (now (rounds .entry))) (now (out .entry)) ⌝ }
-    ensures bytes { λ _. ⌜ now (out .exit) ≡ readBytes (recordIn (now (numbers .entry)) (now (prices .entry)) (now (sets .entry)) (now (rounds .entry))) (now (out .entry)) ⌝ }
+    ensures number { λ r. ⌜ r ≡ readNumber (recordIn (now (numbers .entry)) (now (prices .entry)) (now (floors .entry)) (now (sets .entry)) (now (rounds .entry))) (now (out .entry)) ⌝ }
+    ensures bytes { λ _. ⌜ now (out .exit) ≡ readBytes (recordIn (now (numbers .entry)) (now (prices .entry)) (now (floors .entry)) (now (sets .entry)) (now (rounds .entry))) (now (out .entry)) ⌝ }
 {
-    record_in(numbers, prices, sets, rounds).read(out)
+    record_in(numbers, prices, floors, sets, rounds).read(out)
 }
 
 // Writes a closing sheet to the front of `out`, where there is room for it and the counts are at most 32 and 64.

@@ -1,4 +1,4 @@
-// A line of the input, 136 bytes: 48 with a letter and what is asked in words, then numbers in hexadecimal digits, each at its place.
+// A line of the input, 154 bytes: 48 with a letter and what is asked in words, then numbers in hexadecimal digits, each at its place.
 use digits::Number;
 use live::Auction;
 use live::Phase;
@@ -10,7 +10,7 @@ pub(crate) fn words(line: &[u8; 48]) {
 }
 
 // The number in so many digits at a place; 0 where there is none.
-pub(crate) fn number(line: &[u8; 88], at: usize, digits: usize) -> u32 {
+pub(crate) fn number(line: &[u8; 106], at: usize, digits: usize) -> u32 {
     let read = digits::number_at(line, at, digits);
     match read {
         Number::Is(x) => x,
@@ -19,12 +19,12 @@ pub(crate) fn number(line: &[u8; 88], at: usize, digits: usize) -> u32 {
 }
 
 // A count, a place or a bidder's number: two digits.
-pub(crate) fn count(line: &[u8; 88], at: usize) -> usize {
+pub(crate) fn count(line: &[u8; 106], at: usize) -> usize {
     number(line, at, 2) as usize
 }
 
 // As many of these numbers as the two digits at a place say; none where there are not so many.
-pub(crate) fn some_numbers(line: &[u8; 88], at: usize, numbers: &[u16]) -> usize
+pub(crate) fn some_numbers(line: &[u8; 106], at: usize, numbers: &[u16]) -> usize
     ensures { λ r. ⌜ Counts r (now (numbers .entry)) ⌝ }
 {
     let n = count(line, at);
@@ -35,7 +35,7 @@ pub(crate) fn some_numbers(line: &[u8; 88], at: usize, numbers: &[u16]) -> usize
 }
 
 // The same of bytes.
-pub(crate) fn some_bytes(line: &[u8; 88], at: usize, bytes: &[u8]) -> usize
+pub(crate) fn some_bytes(line: &[u8; 106], at: usize, bytes: &[u8]) -> usize
     ensures { λ r. ⌜ Counts r (now (bytes .entry)) ⌝ }
 {
     let n = count(line, at);
@@ -45,19 +45,19 @@ pub(crate) fn some_bytes(line: &[u8; 88], at: usize, bytes: &[u8]) -> usize
     0
 }
 
-// A price: four digits.
-pub(crate) fn price(line: &[u8; 88], at: usize) -> u16 {
+// A price or a floor: four digits.
+pub(crate) fn price(line: &[u8; 106], at: usize) -> u16 {
     (number(line, at, 4) % 65536) as u16
 }
 
 // A set of bidders: sixteen digits.
-fn bidders(line: &[u8; 88], upper: usize, lower: usize) -> u64 {
+fn bidders(line: &[u8; 106], upper: usize, lower: usize) -> u64 {
     let high = number(line, upper, 8) as u64;
     let low = number(line, lower, 8) as u64;
     (high << 32) | low
 }
 
-fn phase(line: &[u8; 88]) -> Phase {
+fn phase(line: &[u8; 106]) -> Phase {
     let p = number(line, 7, 1);
     match p {
         0 => Phase::Rising,
@@ -66,20 +66,24 @@ fn phase(line: &[u8; 88]) -> Phase {
     }
 }
 
-// The prices of items 1 and 2, and one more at a place.
-fn prices(line: &[u8; 88]) -> [u16; 32] {
+// The prices, or the floors, of items 1 and 2, and one more at a place.
+fn amounts(line: &[u8; 106], first: usize, second: usize, place: usize, more: usize) -> [u16; 32] {
     let mut all = [0u16; 32];
-    let k = count(line, 37);
+    let k = count(line, place);
     if k < 32 {
-        all[k] = price(line, 40);
+        all[k] = price(line, more);
     }
-    all[0] = price(line, 27);
-    all[1] = price(line, 32);
+    all[0] = price(line, first);
+    all[1] = price(line, second);
     all
 }
 
+pub(crate) fn floors(line: &[u8; 106]) -> [u16; 32] {
+    amounts(line, 88, 93, 98, 101)
+}
+
 // The item sets of bidders 1 to 3, and one more at a place.
-fn sets(line: &[u8; 88]) -> [u32; 64] {
+fn sets(line: &[u8; 106]) -> [u32; 64] {
     let mut all = [0u32; 64];
     let k = count(line, 49);
     if k < 64 {
@@ -91,12 +95,13 @@ fn sets(line: &[u8; 88]) -> [u32; 64] {
     all
 }
 
-// A record: items, bidders, phase, rounds raised and lowered, prices, item sets, who says null, who has reported.
-pub(crate) fn record(line: &[u8; 88]) -> Auction {
+// A record: items, bidders, phase, rounds raised and lowered, prices, item sets, who says null, who has reported, floors.
+pub(crate) fn record(line: &[u8; 106]) -> Auction {
     Auction {
         items: count(line, 1),
         bidders: count(line, 4),
-        prices: prices(line),
+        prices: amounts(line, 27, 32, 37, 40),
+        floors: floors(line),
         sets: sets(line),
         nulls: bidders(line, 54, 62),
         reported: bidders(line, 71, 79),

@@ -19,7 +19,7 @@ fn show(part: &[u16]) {
     }
 }
 
-fn ask_of(line: &[u8; 88], bids: &[u16]) {
+fn ask_of(line: &[u8; 106], bids: &[u16]) {
     let n = asked::some_numbers(line, 7, bids);
     let lent = &bids[..n];
     let items = asked::count(line, 1);
@@ -30,7 +30,7 @@ fn ask_of(line: &[u8; 88], bids: &[u16]) {
 }
 
 // Items, bidders, how many bids, bidder.
-pub(crate) fn ask(r: Auction, line: &[u8; 88]) -> Auction {
+pub(crate) fn ask(r: Auction, line: &[u8; 106]) -> Auction {
     let mut bids = [9u16; 65];
     bids[0] = 1;
     bids[1] = 2;

@@ -1,8 +1,8 @@
 // The calls of the live auction and a bidder's line, run on every number that turns them down, and on every kind of damaged record. The file `stdin` has a call
 // a line: a letter, what is asked in words, and the arguments. The program writes the words again, and what was given. What must be given stands in the file
-// `stdout`, which was written from document 01 and not from a run.
+// `stdout`, which was written from documents 01 and 02 and not from a run.
 mod asked; // asked.rt: a line of the input
-mod calls; // calls.rt: open, report, end, clear and read
+mod calls; // calls.rt: open, open with floors, report, end, clear and read
 mod line; // line.rt: a bidder's line
 mod record; // record.rt: records compared
 mod say; // say.rt: numbers and answers as text
@@ -16,11 +16,12 @@ struct Turn {
 }
 
 // One line. A record that is given, `d`, is tried in all four calls; any other line is words alone.
-fn answer(r: Auction, words: &[u8; 48], line: &[u8; 88]) -> Auction {
+fn answer(r: Auction, words: &[u8; 48], line: &[u8; 106]) -> Auction {
     asked::words(words);
     let letter = words[0];
     match letter {
         b'o' => calls::open(line),
+        b'f' => calls::open_above(line),
         b'r' => calls::report(r, line),
         b'e' => calls::end(r),
         b'c' => calls::clear(r),
@@ -33,10 +34,10 @@ fn answer(r: Auction, words: &[u8; 48], line: &[u8; 88]) -> Auction {
 
 fn take_turn(r: Auction) -> Turn {
     let mut words = [0u8; 48];
-    let mut line = [0u8; 88];
+    let mut line = [0u8; 106];
     io::read_full(0, &mut words);
     let got = io::read_full(0, &mut line);
-    if got < 88 {
+    if got < 106 {
         return Turn {
             next: r,
             more: false,

@@ -8,6 +8,7 @@ pub(crate) fn zeros() -> Auction {
         items: 0,
         bidders: 0,
         prices: [0; 32],
+        floors: [0; 32],
         sets: [0; 64],
         nulls: 0,
         reported: 0,
@@ -37,6 +38,7 @@ fn wide(x: u16) -> u32 {
     x as u32
 }
 
+// Prices, or floors.
 fn same_prices(a: &[u16; 32], b: &[u16; 32]) -> bool {
     let mut other: u32 = 0;
     let mut k: usize = 0;
@@ -57,13 +59,15 @@ fn same_sets(a: &[u32; 64], b: &[u32; 64]) -> bool {
     other == 0
 }
 
-// Prices and item sets.
+// Prices, floors and item sets.
 fn same_places(a: Auction, b: Auction) -> bool {
     let p = a.prices;
     let q = b.prices;
+    let f = a.floors;
+    let g = b.floors;
     let s = a.sets;
     let t = b.sets;
-    same_prices(&p, &q) && same_sets(&s, &t)
+    same_prices(&p, &q) && same_prices(&f, &g) && same_sets(&s, &t)
 }
 
 // The other numbers and the phase.

@@ -19,8 +19,8 @@ leave-requires c κs = search needs
 
 returns : tie.Need-returns
 returns c =
-    let e = c .before .before .before .before .before .before .clear .ensures ∙ ap (λ (r : Auction). clear r) (c .before .before .before .before .before .before .before .record-in .ensures) in
-    (ap (λ (r : Reply). r .number) e, stands _ _ _ _ _ _ (ap (λ (r : Reply). r .next) e) (c .leave .ensures))
+    let e = c .before .before .before .before .before .before .before .clear .ensures ∙ ap (λ (r : Auction). clear r) (c .before .before .before .before .before .before .before .before .record-in .ensures) in
+    (ap (λ (r : Reply). r .number) e, stands _ _ _ _ _ _ _ (ap (λ (r : Reply). r .next) e) (c .leave .ensures))
 
 pub bench-clear-spec : {M : Type 1} → statement M
 bench-clear-spec = tie.close (tie.spec record-in-requires clear-requires leave-requires returns)

@@ -25,13 +25,13 @@ end-number-requires c κs = search needs
 
 returns : tie.Need-returns
 returns c =
-    let x = c .before .before .before .before .before .before .before .before .before .end .ensures in
-    let e = c .before .before .before .before .before .before .before .before .before .before .record-in .ensures in
+    let x = c .before .before .before .before .before .before .before .before .before .before .end .ensures in
+    let e = c .before .before .before .before .before .before .before .before .before .before .before .record-in .ensures in
     let answer = x .0 ∙ ap (λ (r : Auction). endAnswer r) e in (
       c .end-number .ensures ∙ ap endNumberOf answer,
       (
         c .before .put-move .ensures ∙ ap moveIn answer,
-        stands _ _ _ _ _ _ (x .1 ∙ ap (λ (r : Auction). endNext r) e) (c .before .before .before .leave .ensures),
+        stands _ _ _ _ _ _ _ (x .1 ∙ ap (λ (r : Auction). endNext r) e) (c .before .before .before .leave .ensures),
       ),
     )
 
