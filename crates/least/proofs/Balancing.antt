@@ -160,13 +160,6 @@ module _ {m n : ℕ} {bids : List ℕ} (f : Fit m n bids) where
                     let same : w .0 ≡ b = omega (arith, g .given (w .0) x (w .1) (w .2) .0, at) in
                     subst (λ (c : ℕ). (c < n) × (amount option (suc c) ≡ suc x)) same (w .1, sym (option-at (w .0)) ∙ w .2)
 
-        pub past-free : (x : ℕ) → m ≤ x → getD own x 0 ≡ 0
-        past-free x l = go (g .only x)
-          where
-            go : FreeOrTaken option n prices own x → getD own x 0 ≡ 0
-            go (inl w) = w .0
-            go (inr w) = absurd (omega (arith, l, w .2, options .small (w .0) (w .1)))
-
         pub balanced : Balanced m n bids (replicate 64 0) prices own
         balanced =
             record {

@@ -22,3 +22,4 @@ pub mod Calming
 pub mod Lowering
 pub mod Lifting
 pub mod Narrowing
+pub mod Starting

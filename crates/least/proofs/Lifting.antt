@@ -1,4 +1,4 @@
--- On from the least prices from 0 up: prices lifted to the start of the rise where that is higher, and the least from there up. THEORY.md 2.13. Assumes nothing.
+-- From the least prices from some base up: prices lifted to the start of a rise where that is higher, and the least from there up. THEORY.md 2.13. Assumes nothing.
 use Prim.Native.Nat.{ℕ, zero, suc, _+_, _≤_, _<_}
 use mathlib.Core.Path.{_≡_, refl, sym, ap, _∙_, subst}
 use mathlib.Core.Bool.{true, false, _||_}
@@ -7,7 +7,7 @@ use mathlib.Core.Logic.{_⊎_, inl, inr}
 use native.Mathlib.Omega.{arith}
 use native.Mathlib.Decide.{decLe}
 use lib.Dec.{eqb}
-use lib.ListN.{length, getD, set, length-set, List·getD-eq-default}
+use lib.ListN.{length, getD, set, replicate, length-set, List·getD-eq-default}
 use lib.Seq.{getD-set-same, getD-set-other}
 use Rattle.sets.specs.Bit.{isSet, has, setOf}
 use Rattle.sets.proofs.Counting.{lt-or-le, below-suc, not-both, is-false}
@@ -18,15 +18,15 @@ use Rattle.rule.specs.Sheet.{amount}
 use Rattle.rule.specs.Demand.{demands}
 use Rattle.rule.specs.Excess.{excessDemand}
 use Rattle.rule.specs.Equilibrium.{Below}
-use Rattle.rule.proofs.Limits.{amount-null, amount-zeros}
+use Rattle.rule.proofs.Limits.{amount-null}
 use Rattle.bids.specs.Lent.{rowsOf}
 use Rattle.bids.specs.Fit.{Small}
 use Rattle.least.specs.Least.{LeastFrom}
-use Rattle.least.specs.Holding.{Holds, Demands}
+use Rattle.least.specs.Holding.{Held, Holds, Demands}
 use Rattle.least.specs.Putting.{bidAt, Put, everyone, others, Standing}
 use Rattle.least.specs.Transposing.{Balanced}
 use Rattle.least.specs.Falling.{Lowered}
-use Rattle.least.specs.Lifting.{Lifted, FromZero}
+use Rattle.least.specs.Lifting.{Lifted, Starts, From}
 use Rattle.least.proofs.Entering.{amount-suc}
 use Rattle.least.proofs.Joining.{everyone-use, everyone-make, others-use, others-make, held-same}
 use Rattle.least.proofs.Lowering.{least-from}
@@ -132,10 +132,10 @@ module _ (n : ℕ) (ln : n < 64) (start prices own next holders : List ℕ) (wai
 
 -- ---- the prices lifted, and who still holds what
 
-module _ {m n : ℕ} {bids prices own : List ℕ} (c : FromZero m n bids prices own) {start : List ℕ} (small : Small start) (len : length start ≡ 32) {next holders : List ℕ} {waiting : ℕ}
+module _ {m n : ℕ} {bids base prices own : List ℕ} (c : From m n bids base prices own) {start : List ℕ} (low : Below base start) (g : Starts m start) {next holders : List ℕ} {waiting : ℕ}
     (t : Lifted 32 start prices own next holders waiting) where
   s : Standing m n bids (everyone n) prices own
-  s = c .lowered .standing
+  s = c .standing
 
   -- each price is kept, with its holder, or lifted, with none
   abbrev Kept : ℕ → Type 0
@@ -148,14 +148,14 @@ module _ {m n : ℕ} {bids prices own : List ℕ} (c : FromZero m n bids prices 
   each x = go (lt-or-le x 32)
     where
       go : (x < 32) ⊎ (32 ≤ x) → Kept x ⊎ Raised x
-      go (inr l) = let w = t .rest x l in inl (omega (arith, List·getD-eq-default start 0 {n = x} (omega (arith, l, len))), w .0, w .1)
+      go (inr l) = let w = t .rest x l in inl (omega (arith, List·getD-eq-default start 0 {n = x} (omega (arith, l, g .long))), w .0, w .1)
       go (inl l) = by (lt-or-le (getD prices x 0) (getD start x 0))
         where
           by : (getD prices x 0 < getD start x 0) ⊎ (getD start x 0 ≤ getD prices x 0) → Kept x ⊎ Raised x
           by (inl h) = let w = t .lifted x l h in inr (l, h, w .0, w .1)
           by (inr h) = let w = t .kept x l h in inl (h, w .0, w .1)
 
-  -- so the prices are the higher of start and close
+  -- so the prices are the higher of the start and what they were
   higher : (i : ℕ) → (amount start i ≤ amount next i) × (amount prices i ≤ amount next i) × ((amount next i ≡ amount start i) ⊎ (amount next i ≡ amount prices i))
   unfolding amount
   higher zero = (omega arith, omega arith, inl refl)
@@ -171,7 +171,7 @@ module _ {m n : ℕ} {bids prices own : List ℕ} (c : FromZero m n bids prices 
     where
       go : Kept x ⊎ Raised x → getD next x 0 ≤ 4095
       go (inl w) = omega (arith, w .1, s .small x)
-      go (inr w) = omega (arith, w .2, small x)
+      go (inr w) = omega (arith, w .2, g .small x)
 
   -- who still holds an item held it before, and it was not lifted
   held-before : (i b : ℕ) → amount holders i ≡ suc b → (amount own i ≡ suc b) × (amount next i ≡ amount prices i)
@@ -193,7 +193,7 @@ module _ {m n : ℕ} {bids prices own : List ℕ} (c : FromZero m n bids prices 
           at-x = unfold amount in w .3
 
           by : (w .0 < m) ⊎ (m ≤ w .0) → ⊥
-          by (inr h) = omega (arith, c .free (w .0) h, w .3)
+          by (inr h) = omega (arith, g .past (w .0) h, w .2)
           by (inl h) =
               let same : i ≡ suc (w .0) = s .held .once i (suc (w .0)) b l (omega arith) (held-before i b e .0) at-x in
               let up : getD next (w .0) 0 ≡ getD start (w .0) 0 = t .lifted (w .0) (w .1) (w .2) .0 in
@@ -250,23 +250,31 @@ module _ {m n : ℕ} {bids prices own : List ℕ} (c : FromZero m n bids prices 
       both : (q : List ℕ) → ((i : ℕ) → amount start i ≤ amount q i) → excessDemand m (demands m (rowsOf m n bids) q) ≡ 0 → (i : ℕ)
           → (amount next i ≡ amount start i) ⊎ (amount next i ≡ amount prices i) → amount next i ≤ amount q i
       both q from e i (inl h) = omega (arith, h, from i)
-      both q from e i (inr h) = omega (arith, h, c .lowered .least .least q (λ j. omega (arith, amount-zeros 64 j)) e i)
+      both q from e i (inr h) = omega (arith, h, c .least .least q (λ j. omega (arith, low j, from j)) e i)
 
-  pub past-zero : (x : ℕ) → 32 ≤ x → getD next x 0 ≡ 0
-  past-zero x l = t .rest x l .0 ∙ c .lowered .past x (omega (arith, l, c .max-items)) ∙ zeros-at 64 x
+  past-zero : (x : ℕ) → 32 ≤ x → getD next x 0 ≡ 0
+  past-zero x l = t .rest x l .0 ∙ c .past x l
 
   -- nobody waits
-  pub turn-calm : waiting ≡ 0 → LeastFrom m (rowsOf m n bids) start next
-  turn-calm z =
-      from-start next (least-from m n bids next next holders (held-same (λ b on. everyone-make n b (others-use n waiting b on .0)) back (lifted-standing .held)) (λ i. omega arith) (λ q from calm i. from i))
+  pub rise-calm : waiting ≡ 0 → From m n bids start next holders
+  rise-calm z =
+      record {
+        max-items = c .max-items;
+        standing = record { table = s .table; long = t .long; long-own = t .long-own; small = unfold Small in small-next; held = held };
+        least = from-start next (least-from m n bids next next holders held (λ i. omega arith) (λ q from calm i. from i));
+        past = past-zero;
+      }
     where
       back : (b : ℕ) → everyone n b ≡ true → others n waiting b ≡ true
       back b on = others-make n waiting b (everyone-use n b on) (ap (λ (w : ℕ). has w (suc b)) z ∙ empty-has (suc b))
 
+      held : Held m (bidAt m bids) (everyone n) (amount next) (amount holders)
+      held = held-same (λ b on. everyone-make n b (others-use n waiting b on .0)) back (lifted-standing .held)
+
   -- those who wait are put in
   module _ (p o : List ℕ) (put : Put m bids (everyone n) next holders p o) where
-    pub turn-balanced : Balanced m n bids next p o
-    turn-balanced =
+    pub rise-balanced : Balanced m n bids next p o
+    rise-balanced =
         record {
           standing = record { table = s .table; long = put .long; long-own = put .long-own; small = put .small; held = put .held };
           above = put .rises;
@@ -274,5 +282,15 @@ module _ {m n : ℕ} {bids prices own : List ℕ} (c : FromZero m n bids prices 
           past = put .past;
         }
 
-    pub turn-least : (q : List ℕ) → Lowered m n bids next q o → (length q ≡ 64) × ((x : ℕ) → 32 ≤ x → getD q x 0 ≡ 0) × LeastFrom m (rowsOf m n bids) start q
-    turn-least q l = (l .standing .long, (λ x h. l .past x (omega (arith, h, c .max-items)) ∙ past-zero x h), from-start q (l .least))
+    pub rise-least : (q : List ℕ) → Lowered m n bids next q o → From m n bids start q o
+    rise-least q l =
+        record {
+          max-items = c .max-items;
+          standing = l .standing;
+          least = from-start q (l .least);
+          past = λ x h. l .past x (omega (arith, h, c .max-items)) ∙ past-zero x h;
+        }
+
+-- the least from 0 up
+pub from-zero : {m n : ℕ} {bids prices own : List ℕ} → m ≤ 32 → Lowered m n bids (replicate 64 0) prices own → From m n bids (replicate 64 0) prices own
+from-zero lm l = record { max-items = lm; standing = l .standing; least = l .least; past = λ x h. l .past x (omega arith) ∙ zeros-at 64 x }

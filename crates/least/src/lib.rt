@@ -2,24 +2,26 @@
 //
 // Bidders are put in over items one at a time: a search by distance finds by how much prices must rise before the new bidder, and those whom they push on, all
 // have an item that they demand, or null. From 0 up the items are put in over the bidders instead, by the transposed table of bids: there are fewer of them.
-// Prices and holders that then balance fall to the least that do, in one more search. Both ends rise from there.
+// Prices and holders that then balance fall to the least that do, in one more search. From there prices rise to the close, and from the close to the turn.
 //
 // Arrays have 64 places, for items or for bidders. Item i has place i - 1; a holder is a bidder counted from 1, or 0.
 ghost use mathlib.Core.Path.{_≡_};
 ghost use mathlib.Core.Bool.{Bool, true, false, _||_};
+ghost use mathlib.Core.List.{List};
 ghost use Prim.Native.Nat.{ℕ, _+_, _-_, _*_, _≤_, _<_, max};
 ghost use lib.ListN.{length, getD, set, replicate};
 ghost use lib.Dec.{eqb};
 ghost use Rattle.sets.specs.Bit.{has, setOf};
 ghost use Rattle.sets.specs.Lists.{places};
 ghost use Rattle.rule.specs.Sheet.{amount};
-ghost use Rattle.bids.specs.Lent.{lineOf, rowsOf};
+ghost use Rattle.bids.specs.Lent.{rowsOf};
+ghost use Rattle.rule.specs.Equilibrium.{Below};
 ghost use Rattle.bids.specs.Refusal.{sealedAboveRefusal};
 ghost use Rattle.bids.specs.Fit.{Small, Fit};
 ghost use Rattle.least.specs.Steps.{Reached, Lowest, Numbered, AllLeft, HeldLeft, WithDistance, Nearest, Enters, Entered, atOption};
 ghost use Rattle.least.specs.Holding.{Joins};
-ghost use Rattle.least.specs.Least.{LeastFrom, Least};
-ghost use Rattle.least.specs.Lifting.{Lifted, FromZero};
+ghost use Rattle.least.specs.Least.{Least};
+ghost use Rattle.least.specs.Lifting.{Lifted, Starts, From};
 ghost use Rattle.least.specs.Falling.{Seated, Offered, Descends, Descended, Lowered};
 ghost use Rattle.least.specs.Transposing.{TransposedTo, Transposed, Options, Given, Balanced};
 ghost use Rattle.least.specs.Putting.{Ready, Unsearched, Seeking, Changed, Chained, Shifted, Put, everyone, others, Standing, Table};
@@ -373,7 +375,7 @@ const EVERYONE: u64 = 0xffff_ffff_ffff_ffff;
 // Prices that balance: the items are put in over the bidders, whose prices are then their surpluses.
 fn balance(bids: &[u16], items: usize, bidders: usize) -> Outcome
     requires { ⌜ Fit items bidders (now bids) ⌝ }
-    ensures { λ r. ⌜ Balanced items bidders (now (bids .entry)) (replicate 64 0) (r .prices) (r .own) × ((x : ℕ) → items ≤ x → getD (r .own) x 0 ≡ 0) ⌝ }
+    ensures { λ r. ⌜ Balanced items bidders (now (bids .entry)) (replicate 64 0) (r .prices) (r .own) ⌝ }
 {
     let table = transposed(bids, items, bidders);
     let mut surplus = [0u16; 64];
@@ -577,7 +579,7 @@ fn lift_all(prices: &mut [u16; 64], own: &mut [u16; 64], start: &[u16; 32]) -> u
     waiting
 }
 
-// On from the least prices from 0 up: those whose item costs more at the start of the rise are put in again.
+// From the least prices from some base up to the least from the start up: those whose item costs more at the start are put in again.
 fn rise(
     prices: &mut [u16; 64],
     own: &mut [u16; 64],
@@ -586,9 +588,8 @@ fn rise(
     items: usize,
     bidders: usize,
 )
-    requires { ⌜ FromZero items bidders (now bids) (now prices) (now own) × Small (now start) × (length (now start) ≡ 32) ⌝ }
-    ensures { λ _. ⌜ (length (now (prices .exit)) ≡ 64) × ((x : ℕ) → 32 ≤ x → getD (now (prices .exit)) x 0 ≡ 0)
-        × LeastFrom items (rowsOf items bidders (now (bids .entry))) (now (start .entry)) (now (prices .exit)) ⌝ }
+    requires { ⌜ ((base : List ℕ) × From items bidders (now bids) base (now prices) (now own) × Below base (now start)) × Starts items (now start) ⌝ }
+    ensures { λ _. ⌜ From items bidders (now (bids .entry)) (now (start .entry)) (now (prices .exit)) (now (own .exit)) ⌝ }
 {
     let waiting = lift_all(prices, own, start);
     if waiting == 0 {
@@ -610,25 +611,6 @@ fn narrow(prices: &[u16; 64]) -> [u16; 32]
         x += 1;
     }
     first
-}
-
-// The least prices from given ones up, where those from 0 up are known, and who holds what at them.
-fn least_from(
-    base: &[u16],
-    zero: &[u16; 64],
-    holders: &[u16; 64],
-    bids: &[u16],
-    items: usize,
-    bidders: usize,
-) -> [u16; 32]
-    requires { ⌜ FromZero items bidders (now bids) (now zero) (now holders) × Small (now base) × (length (now base) ≤ 32) ⌝ }
-    ensures { λ r. ⌜ Least items (rowsOf items bidders (now (bids .entry))) (now (base .entry)) r ⌝ }
-{
-    let start = prices::in_places(base);
-    let mut prices = *zero;
-    let mut own = *holders;
-    rise(&mut prices, &mut own, &start, bids, items, bidders);
-    narrow(&prices)
 }
 
 // The closing prices, and the prices at the turn.
@@ -665,10 +647,16 @@ pub fn close_and_turn(
         return nothing();
     }
     let b = balance(bids, items, bidders);
-    let mut zero = b.prices;
-    let own = b.own;
-    fall(&mut zero, &own, [0; 64], bids, items, bidders);
-    let close = least_from(floors, &zero, &own, bids, items, bidders);
-    let turn = least_from(start, &zero, &own, bids, items, bidders);
-    Ends { close, turn }
+    let mut prices = b.prices;
+    let mut own = b.own;
+    fall(&mut prices, &own, [0; 64], bids, items, bidders);
+    let low = prices::in_places(floors);
+    rise(&mut prices, &mut own, &low, bids, items, bidders);
+    let close = narrow(&prices);
+    let first = prices::in_places(start);
+    rise(&mut prices, &mut own, &first, bids, items, bidders);
+    Ends {
+        close: close,
+        turn: narrow(&prices),
+    }
 }

@@ -1,6 +1,6 @@
 -- `least::balance` meets its contract. Assumes nothing.
 use mathlib.Core.Path.{refl}
-use Rattle.least.proofs.Balancing.{transposed-standing, options, balanced, past-free}
+use Rattle.least.proofs.Balancing.{transposed-standing, options, balanced}
 use borrow.Author.Needs.{needs}
 use Rattle.least.proofs.balance.Statement.{statement}
 use Rattle.least.proofs.balance.Tie as tie
@@ -32,10 +32,8 @@ returns : tie.Need-returns
 returns c =
     let t = c .before .before .before .before .before .before .before .before .before .before .transposed in
     let p = c .before .before .before .before .before .put-all in
-    let g = c .give-all in (
-      balanced (c .before .before .before .before .before .before .before .before .before .before .before .before .pre) (t .result) (t .ensures .0) (t .ensures .1) (t .ensures .2) (p .last .0) (p .last .1 .0) (p .ensures) (g .last .0) (g .last .1 .0) (g .ensures),
-      past-free (c .before .before .before .before .before .before .before .before .before .before .before .before .pre) (t .result) (t .ensures .0) (t .ensures .1) (t .ensures .2) (p .last .0) (p .last .1 .0) (p .ensures) (g .last .0) (g .last .1 .0) (g .ensures),
-    )
+    let g = c .give-all in
+    balanced (c .before .before .before .before .before .before .before .before .before .before .before .before .pre) (t .result) (t .ensures .0) (t .ensures .1) (t .ensures .2) (p .last .0) (p .last .1 .0) (p .ensures) (g .last .0) (g .last .1 .0) (g .ensures)
 
 pub balance-spec : {M : Type 1} → statement M
 balance-spec =
