@@ -229,7 +229,7 @@ fn balance(table: &Table, transposed: &Table, turns: &mut u32) -> Outcome {
     balanced
 }
 
-/// The closing prices, and from there the prices at the turn. The proved code finds both from the least prices from 0 up.
+/// The closing prices, and from there the prices at the turn.
 fn ends(start: &[u16], floors: &[u16], table: &Table, transposed: &Table, turns: &mut u32) -> ([i16; 64], [i16; 64]) {
     let mut at = balance(table, transposed, turns);
     at.fall(table, transposed.items, turns);
