@@ -1,4 +1,4 @@
-pub mod Prices
+pub mod Amounts
 pub mod Lines
 pub mod Enough
 pub mod Writing
