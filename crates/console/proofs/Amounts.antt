@@ -1,5 +1,5 @@
 -- The amounts of a line, number after number. Assumes nothing.
-use Prim.Native.Nat.{ℕ, zero, suc, _+_, _*_, _-_, _/_, _%_, _≤_, _<_}
+use Prim.Native.Nat.{ℕ, zero, suc, _+_, _*_, _-_, _/_, _%_, _≤_, _<_, min}
 use mathlib.Core.Path.{_≡_, refl, sym, ap, _∙_, subst}
 use mathlib.Core.Bool.{Bool, true, false, cond, false≢true, true≢false}
 use mathlib.Core.List.{List, [], _∷_}
@@ -111,3 +111,7 @@ module _ (line : List ℕ) where
 
   pub past-amounts : isRead (amountsAt line) ≡ true → (i : ℕ) → many ≤ i → 0 ≡ getD (amountsOf line) i 0
   past-amounts e i l = sym (List·getD-eq-default (amountsOf line) 0 {n = i} (omega (arith, all-amounts e .0)))
+
+  -- how many are read into 65 places
+  pub read-count : isRead (amountsAt line) ≡ true → (rest k : ℕ) → rest ≡ length line - 5 → k ≡ min (rest / 4) 65 → k ≡ min (length (amountsOf line)) 65
+  read-count e rest k r q = q ∙ ap (λ (n : ℕ). min (n / 4) 65) r ∙ ap (λ (n : ℕ). min n 65) (sym (all-amounts e .0))

@@ -47,41 +47,44 @@ same m n xs zs ys ws u v = by-items (badItems m) refl
 
 -- ---- the amounts that are read
 
+-- the part has as many places as it is asked for
+pub part-length : (xs ys : List ℕ) (n k : ℕ) → ys ≡ places 65 xs → k ≡ min n 65 → k ≡ length (take k ys)
+part-length xs ys n k e q = sym (length-take-le k ys (omega (arith, ap length e, places-length 65 xs, q, min-le-right n 65)))
+
 -- what is the same for any lists of 65 or more is the same for those that are read and for all
 enough : (f : List ℕ → Reply) → ((xs ys : List ℕ) → 65 ≤ length xs → 65 ≤ length ys → f xs ≡ f ys)
-    → (xs : List ℕ) (k : ℕ) → k ≡ min (length xs) 65 → f (take k (places 65 xs)) ≡ f xs
-enough f h xs k q = go (lt-or-le 65 (length xs))
+    → (xs ys : List ℕ) (k : ℕ) → ys ≡ places 65 xs → k ≡ min (length xs) 65 → f (take k ys) ≡ f xs
+enough f h xs ys k e q = go (lt-or-le 65 (length xs))
   where
-    go : (65 < length xs) ⊎ (length xs ≤ 65) → f (take k (places 65 xs)) ≡ f xs
-    go (inr l) = ap f (ap (λ (j : ℕ). take j (places 65 xs)) (q ∙ min-eq-left l) ∙ take-places 65 xs l)
+    go : (65 < length xs) ⊎ (length xs ≤ 65) → f (take k ys) ≡ f xs
+    go (inr l) = ap f (ap (take k) e ∙ ap (λ (j : ℕ). take j (places 65 xs)) (q ∙ min-eq-left l) ∙ take-places 65 xs l)
     go (inl l) =
         let at : k ≡ 65 = q ∙ min-eq-right (omega arith) in
-        let long : length (take k (places 65 xs)) ≡ k = length-take-le k (places 65 xs) (omega (arith, places-length 65 xs)) in
-        h (take k (places 65 xs)) xs (omega (arith, at, long)) (omega arith)
+        h (take k ys) xs (omega (arith, at, part-length xs ys (length xs) k e q)) (omega arith)
 
-pub first-65 : (m n : ℕ) (xs : List ℕ) (k : ℕ) → k ≡ min (length xs) 65 → openAuction m n (take k (places 65 xs)) ≡ openAuction m n xs
-first-65 m n = enough (openAuction m n) many
-  where
-    many : (xs ys : List ℕ) → 65 ≤ length xs → 65 ≤ length ys → openAuction m n xs ≡ openAuction m n ys
-    many xs ys l h =
-        sym (zero-floors m n xs)
-        ∙ same m n xs (replicate m 0) ys (replicate m 0) (λ a e f. omega (arith, l, a, e)) (λ a e f. omega (arith, h, a, e))
-        ∙ zero-floors m n ys
+module _ (m n : ℕ) where
+  many-starts : (xs ys : List ℕ) → 65 ≤ length xs → 65 ≤ length ys → openAuction m n xs ≡ openAuction m n ys
+  many-starts xs ys l h =
+      sym (zero-floors m n xs)
+      ∙ same m n xs (replicate m 0) ys (replicate m 0) (λ a e f. omega (arith, l, a, e)) (λ a e f. omega (arith, h, a, e))
+      ∙ zero-floors m n ys
 
--- starting prices and floors together are at most 64
-pub first-65-above : (m n : ℕ) (xs : List ℕ) (k : ℕ) → k ≡ min (length xs) 65
-    → openAbove m n (take m (take k (places 65 xs))) (drop m (take k (places 65 xs))) ≡ openAbove m n (take m xs) (drop m xs)
-first-65-above m n = enough (λ xs. openAbove m n (take m xs) (drop m xs)) many
-  where
-    rest : (xs : List ℕ) → 65 ≤ length xs → Wrong m (take m xs) (drop m xs)
-    rest xs l a e f = omega (arith, l, a, f, length-drop m xs)
+  pub first-65 : (xs ys : List ℕ) (k : ℕ) → ys ≡ places 65 xs → k ≡ min (length xs) 65 → openAuction m n (take k ys) ≡ openAuction m n xs
+  first-65 = enough (openAuction m n) many-starts
 
-    many : (xs ys : List ℕ) → 65 ≤ length xs → 65 ≤ length ys → openAbove m n (take m xs) (drop m xs) ≡ openAbove m n (take m ys) (drop m ys)
-    many xs ys l h = same m n (take m xs) (drop m xs) (take m ys) (drop m ys) (rest xs l) (rest ys h)
+  -- the opening with floors: starting prices and floors together are at most 64
+  abbrev above : List ℕ → Reply
+  above xs = openAbove m n (take m xs) (drop m xs)
 
--- the part has as many places as it is asked for
-pub part-length : (xs : List ℕ) (n k : ℕ) → k ≡ min n 65 → k ≡ length (take k (places 65 xs))
-part-length xs n k q = sym (length-take-le k (places 65 xs) (omega (arith, places-length 65 xs, q, min-le-right n 65)))
+  many-floors : (xs : List ℕ) → 65 ≤ length xs → Wrong m (take m xs) (drop m xs)
+  many-floors xs l a e f = omega (arith, l, a, f, length-drop m xs)
+
+  many-amounts : (xs ys : List ℕ) → 65 ≤ length xs → 65 ≤ length ys → above xs ≡ above ys
+  many-amounts xs ys l h = same m n (take m xs) (drop m xs) (take m ys) (drop m ys) (many-floors xs l) (many-floors ys h)
+
+  pub first-65-above : (xs ys : List ℕ) (k : ℕ) → ys ≡ places 65 xs → k ≡ min (length xs) 65
+      → openAbove m n (take m (take k ys)) (drop m (take k ys)) ≡ openAbove m n (take m xs) (drop m xs)
+  first-65-above = enough above many-amounts
 
 -- ---- the split: at the items, or where the amounts end before
 
