@@ -1,3 +1,4 @@
+pub mod Applied
 pub mod Amounts
 pub mod Lines
 pub mod Enough

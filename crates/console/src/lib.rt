@@ -144,7 +144,9 @@ fn open_split(items: usize, bidders: usize, amounts: &[u16]) -> Reply
     ensures { λ r. ⌜ r ≡ openAbove items bidders (take items (now (amounts .entry))) (drop items (now (amounts .entry))) ⌝ }
 {
     let split = least(items, amounts.len());
-    live::open_above(items, bidders, &amounts[..split], &amounts[split..])
+    let start = &amounts[..split];
+    let floors = &amounts[split..];
+    live::open_above(items, bidders, start, floors)
 }
 
 // Opens with the line's amounts, starting prices and floors.

@@ -13,40 +13,36 @@ use Rattle.console.proofs.open_split.Tie as tie
 least-requires : tie.Need-least-requires
 least-requires c κs = search needs
 
-slice-aggregate-open-above : tie.Need-slice-aggregate-open-above
-slice-aggregate-open-above c = sym (length-take-le (c .before .least .result) (c .before .before .before .args .amounts .now) (omega (arith, c .before .least .ensures, min-le-right (c .before .before .before .args .items) (length (c .before .before .before .args .amounts .now)))))
+slice-aggregate-start : tie.Need-slice-aggregate-start
+slice-aggregate-start c = sym (length-take-le (c .before .least .result) (c .before .before .before .args .amounts .now) (omega (arith, c .before .least .ensures, min-le-right (c .before .before .before .args .items) (length (c .before .before .before .args .amounts .now)))))
 
-mul-open-above : tie.Need-mul-open-above
-mul-open-above c = search needs
+mul-floors : tie.Need-mul-floors
+mul-floors c = search needs
 
-sub-open-above : tie.Need-sub-open-above
-sub-open-above c = search needs
+sub-floors : tie.Need-sub-floors
+sub-floors c = search needs
 
-part-open-above-start : tie.Need-part-open-above-start
-part-open-above-start c = search needs
+part-floors-start : tie.Need-part-floors-start
+part-floors-start c = search needs
 
-part-open-above-end : tie.Need-part-open-above-end
-part-open-above-end c = search needs
+part-floors-end : tie.Need-part-floors-end
+part-floors-end c = search needs
 
 open-above-requires : tie.Need-open-above-requires
 open-above-requires c κs = search needs
 
 returns : tie.Need-returns
-returns c =
-    let a = c .before .before .before .before .before .args in
-    let s = c .before .before .before .least .result in
-    c .open-above .ensures
-    ∙ ap₂ (openAbove (a .items) (a .bidders)) (split-starts (a .items) (a .amounts .now) s (c .before .before .before .least .ensures)) (split-floors (a .items) (a .amounts .now) s (c .before .before .before .least .ensures))
+returns c = c .open-above .ensures ∙ ap₂ (openAbove _ _) (split-starts _ _ _ (c .before .before .before .least .ensures)) (split-floors _ _ _ (c .before .before .before .least .ensures))
 
 pub open-split-spec : {M : Type 1} → statement M
 open-split-spec =
     tie.close
     (tie.spec
     least-requires
-    slice-aggregate-open-above
-    mul-open-above
-    sub-open-above
-    part-open-above-start
-    part-open-above-end
+    slice-aggregate-start
+    mul-floors
+    sub-floors
+    part-floors-start
+    part-floors-end
     open-above-requires
     returns)
