@@ -1,8 +1,6 @@
 -- `console::open_split` meets its contract. Assumes nothing.
 use mathlib.Core.Path.{sym, ap₂, _∙_}
 use native.Mathlib.Omega.{arith}
-use native.Mathlib.Nat.{min-le-right}
-use lib.ListN.{length}
 use lib.Seq.{length-take-le}
 use borrow.Author.Needs.{needs}
 use Rattle.live.specs.Calls.{openAbove}
@@ -14,7 +12,7 @@ least-requires : tie.Need-least-requires
 least-requires c κs = search needs
 
 slice-aggregate-start : tie.Need-slice-aggregate-start
-slice-aggregate-start c = sym (length-take-le (c .before .least .result) (c .before .before .before .args .amounts .now) (omega (arith, c .before .least .ensures, min-le-right (c .before .before .before .args .items) (length (c .before .before .before .args .amounts .now)))))
+slice-aggregate-start c = sym (length-take-le (c .before .least .result) (c .before .before .before .args .amounts .now) (omega (arith, c .before .least .ensures)))
 
 mul-floors : tie.Need-mul-floors
 mul-floors c = search needs
