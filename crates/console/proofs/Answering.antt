@@ -96,7 +96,7 @@ module _ (r : Auction) (line : List ℕ) (o : Order) (e : o ≡ orderOf line) wh
 
 -- ---- a line that opens has whole amounts
 
-abbrev isOpen : Order → Bool
+abbrev pub isOpen : Order → Bool
 isOpen (Open m n) = true
 isOpen (OpenAbove m n) = true
 isOpen (Report b x s) = false

@@ -23,6 +23,7 @@ use Rattle.live.proofs.Opening.{one, two, three, three-floors, zero-floors}
 abbrev Wrong : (m : ℕ) (start floors : List ℕ) → Type 0
 Wrong m start floors = m ≤ 32 → length start ≡ m → length floors ≡ m → ⊥
 
+-- they get 3, where neither 1 nor 2 is given
 wrong : (m n : ℕ) (start floors : List ℕ) → badItems m ≡ false → badBidders n ≡ false → Wrong m start floors → openAbove m n start floors ≡ unopened 3
 wrong m n start floors a b w = go (eqb (length start) m) refl
   where
@@ -33,7 +34,7 @@ wrong m n start floors a b w = go (eqb (length start) m) refl
     go true e = three-floors m n start floors a b (eqb-true (length start) m e) (fits (eqb-true (length start) m e))
     go false e = three m n start floors a b (λ q. false≢true (sym e ∙ eq-eqb (length start) m q))
 
--- two such openings get the same number
+-- so two such openings get the same number
 same : (m n : ℕ) (xs zs ys ws : List ℕ) → Wrong m xs zs → Wrong m ys ws → openAbove m n xs zs ≡ openAbove m n ys ws
 same m n xs zs ys ws u v = by-items (badItems m) refl
   where

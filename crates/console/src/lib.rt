@@ -159,7 +159,7 @@ fn open_above_by(line: &[u8], items: usize, bidders: usize) -> Reply
     open_split(items, bidders, &amounts[..count])
 }
 
-// The order of a line that starts with o, or with f: above floors.
+// The order of a line that starts with o, or, above floors, with f.
 fn opening(line: &[u8], above: bool) -> Order
     ensures { λ r. ⌜ r ≡ Option·getD (opening (openBy above) (now (line .entry))) Order.Unknown ⌝ }
 {
