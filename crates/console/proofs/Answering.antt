@@ -2,33 +2,33 @@
 use Prim.Native.Nat.{ℕ, zero, suc, _≤_, _<_}
 use mathlib.Core.Path.{_≡_, refl, sym, ap, _∙_, subst}
 use mathlib.Core.Bool.{Bool, true, false, cond, true≢false}
-use mathlib.Core.List.{List, [], _∷_}
+use mathlib.Core.List.{List, []}
 use mathlib.Core.Option.{Option, none, some, Option·getD}
 use native.Mathlib.Omega.{arith}
 use lib.Dec.{leb, eqb}
-use lib.ListN.{length}
+use lib.ListN.{length, replicate}
 use lib.Seq.{length-sets, length-take-le}
 use borrow.Author.Tests.{lt-ltb, le-ltb}
 use Rattle.rule.specs.Round.{Round, raised, lowered, closed}
-use Rattle.rule.specs.Refusal.{on, badItems, badBidders, badLength, anyOver}
+use Rattle.rule.specs.Refusal.{badItems}
 use Rattle.rule.proofs.Refusal.{none as first-none, in-range}
 use Rattle.lines.specs.Lines.{writtenTo}
 use Rattle.digits.specs.Reading.{_>>=_, numberAt}
 use Rattle.lines.proofs.Stores.{sets-front}
 use Rattle.reports.specs.Report.{saying}
-use Rattle.live.proofs.Opening.{by-number}
-use Rattle.live.specs.Calls.{openNumber, opened, unopened, openAuction, report, clear, endNumber, roundBy, settled, Ending, gives, refused, endAnswer, endNext}
+use Rattle.live.proofs.Opening.{by-number, zero-floors}
+use Rattle.live.specs.Calls.{openAboveNumber, opened, unopened, openAuction, openAbove, report, clear, endNumber, roundBy, settled, Ending, gives, refused, endAnswer, endNext}
 use Rattle.live.specs.declared.Auction.{Auction}
 use Rattle.live.specs.declared.Reply.{Reply}
 use Rattle.live.proofs.Formed.{formed}
 use Rattle.live.proofs.Refusing.{standing}
-use Rattle.console.specs.Orders.{starts, alone, startsAt, startsOf, opening, reporting, orderOf}
+use Rattle.console.specs.Orders.{starts, alone, amountsAt, amountsOf, startsOf, floorsOf, opening, reporting, orderOf}
 use Rattle.console.specs.Answers.{Told, opens, replies, ends, reads, toldBy, told}
 use Rattle.console.specs.Steps.{isRead, Puts, toldTo, Answers}
 use Rattle.console.specs.declared.Answered.{Answered}
 use Rattle.console.specs.declared.Order.{Order}
-use Rattle.console.specs.declared.Order.the-variants.{Open, Report, End, Clear, Read, Unknown}
-use Rattle.console.proofs.Prices.{not-read}
+use Rattle.console.specs.declared.Order.the-variants.{Open, OpenAbove, Report, End, Clear, Read, Unknown}
+use Rattle.console.proofs.Amounts.{not-read}
 
 -- ---- room
 
@@ -66,9 +66,13 @@ module _ (r : Auction) (line : List ℕ) (o : Order) (e : o ≡ orderOf line) wh
   unfolding told
   by p q = ap (toldBy r line) (sym e ∙ q)
 
-  pub told-open : (m n : ℕ) → o ≡ Open m n → (x : Reply) → x ≡ openAuction m n (startsOf line) → told r line ≡ opens r x
+  pub told-open : (m n : ℕ) → o ≡ Open m n → (x : Reply) → x ≡ openAuction m n (amountsOf line) → told r line ≡ opens r x
   unfolding toldBy
   told-open m n q x f = by (Open m n) q ∙ ap (opens r) (sym f)
+
+  pub told-above : (m n : ℕ) → o ≡ OpenAbove m n → (x : Reply) → x ≡ openAbove m n (startsOf m line) (floorsOf m line) → told r line ≡ opens r x
+  unfolding toldBy
+  told-above m n q x f = by (OpenAbove m n) q ∙ ap (opens r) (sym f)
 
   pub told-report : (b : ℕ) (null : Bool) (set : ℕ) → o ≡ Report b null set → (x : Reply) → x ≡ report r b (saying null set) → told r line ≡ replies x
   unfolding toldBy
@@ -90,20 +94,22 @@ module _ (r : Auction) (line : List ℕ) (o : Order) (e : o ≡ orderOf line) wh
   unfolding toldBy replies
   told-none q = by Unknown q
 
--- ---- a line that opens has whole starting prices
+-- ---- a line that opens has whole amounts
 
-abbrev isOpen : Order → Bool
+abbrev pub isOpen : Order → Bool
 isOpen (Open m n) = true
+isOpen (OpenAbove m n) = true
 isOpen (Report b x s) = false
 isOpen End = false
 isOpen Clear = false
 isOpen Read = false
 isOpen Unknown = false
 
-no-opening : (o p : Option ℕ) → isOpen (Option·getD (o >>= λ m. p >>= λ n. none >>= λ (s : List ℕ). some (Open m n)) Unknown) ≡ false
-no-opening none p = refl
-no-opening (some m) none = refl
-no-opening (some m) (some n) = refl
+no-opening : (order : ℕ → ℕ → Order) (o p : Option ℕ)
+    → isOpen (Option·getD (o >>= λ m. p >>= λ n. none >>= λ (s : List ℕ). some (order m n)) Unknown) ≡ false
+no-opening order none p = refl
+no-opening order (some m) none = refl
+no-opening order (some m) (some n) = refl
 
 no-report : (b : Bool) (o p q : Option ℕ)
     → isOpen (Option·getD (cond b (o >>= λ b. p >>= λ x. q >>= λ s. cond (leb x 1) (some (Report b (eqb x 1) s)) none) none) Unknown) ≡ false
@@ -117,50 +123,57 @@ no-report true (some b) (some x) (some s) = go (leb x 1)
     go true = refl
     go false = refl
 
-no-letter : (a b c d e : Bool) (x y : Order) → isOpen x ≡ false → isOpen y ≡ false
-    → isOpen (cond a x (cond b y (cond c End (cond d Clear (cond e Read Unknown))))) ≡ false
-no-letter true b c d e x y f g = f
-no-letter false true c d e x y f g = g
-no-letter false false true d e x y f g = refl
-no-letter false false false true e x y f g = refl
-no-letter false false false false true x y f g = refl
-no-letter false false false false false x y f g = refl
+no-letter : (a b c d e f : Bool) (x y z : Order) → isOpen x ≡ false → isOpen y ≡ false → isOpen z ≡ false
+    → isOpen (cond a x (cond b y (cond c z (cond d End (cond e Clear (cond f Read Unknown)))))) ≡ false
+no-letter true b c d e f x y z hx hy hz = hx
+no-letter false true c d e f x y z hx hy hz = hy
+no-letter false false true d e f x y z hx hy hz = hz
+no-letter false false false true e f x y z hx hy hz = refl
+no-letter false false false false true f x y z hx hy hz = refl
+no-letter false false false false false true x y z hx hy hz = refl
+no-letter false false false false false false x y z hx hy hz = refl
 
-not-open : (line : List ℕ) → isRead (startsAt line) ≡ false → isOpen (orderOf line) ≡ false
-unfolding orderOf opening reporting
+not-open : (line : List ℕ) → isRead (amountsAt line) ≡ false → isOpen (orderOf line) ≡ false
+unfolding orderOf reporting
 not-open line e =
-    no-letter (starts 111 line) (starts 114 line) (alone 101 line) (alone 99 line) (alone 115 line) _ _
-    (rw (not-read (startsAt line) e) (no-opening (numberAt 2 line 1) (numberAt 2 line 3)))
+    no-letter (starts 111 line) (starts 102 line) (starts 114 line) (alone 101 line) (alone 99 line) (alone 115 line) _ _ _
+    (opens-not Open) (opens-not OpenAbove)
     (no-report (eqb (length line) 13) (numberAt 2 line 1) (numberAt 2 line 3) (numberAt 8 line 5))
-
-pub open-starts : (line : List ℕ) (o : Order) (m n : ℕ) → o ≡ orderOf line → o ≡ Open m n → isRead (startsAt line) ≡ true
-open-starts line o m n e q = go (isRead (startsAt line)) refl
   where
-    go : (b : Bool) → isRead (startsAt line) ≡ b → isRead (startsAt line) ≡ true
+    opens-not : (order : ℕ → ℕ → Order) → isOpen (Option·getD (opening order line) Unknown) ≡ false
+    opens-not order = unfold opening in rw (not-read (amountsAt line) e) (no-opening order (numberAt 2 line 1) (numberAt 2 line 3))
+
+pub open-amounts : (line : List ℕ) (o p : Order) → o ≡ orderOf line → o ≡ p → isOpen p ≡ true → isRead (amountsAt line) ≡ true
+open-amounts line o p e q h = go (isRead (amountsAt line)) refl
+  where
+    go : (b : Bool) → isRead (amountsAt line) ≡ b → isRead (amountsAt line) ≡ true
     go true f = f
-    go false f = absurd (true≢false (sym (ap isOpen (sym e ∙ q)) ∙ not-open line f))
+    go false f = absurd (true≢false (sym h ∙ sym (ap isOpen (sym e ∙ q)) ∙ not-open line f))
 
 -- ---- how many items a record has whose prices are told
 
-module _ (m n : ℕ) (start : List ℕ) where
-  accepted : openNumber m n start ≡ 0 → openAuction m n start ≡ record { number = 0; next = opened m n start }
-  unfolding openAuction
-  accepted q = ap (λ (k : ℕ). elim k [ zero ↦ record { number = 0; next = opened m n start } | suc j ↦ unopened (suc j) ]) q
+module _ (m n : ℕ) (start floors : List ℕ) where
+  accepted : openAboveNumber m n start floors ≡ 0 → openAbove m n start floors ≡ record { number = 0; next = opened m n start floors }
+  unfolding openAbove
+  accepted q = ap (λ (k : ℕ). elim k [ zero ↦ record { number = 0; next = opened m n start floors } | suc j ↦ unopened (suc j) ]) q
 
-  turned : (j : ℕ) → openNumber m n start ≡ suc j → openAuction m n start .number ≡ suc j
+  turned : (j : ℕ) → openAboveNumber m n start floors ≡ suc j → openAbove m n start floors .number ≡ suc j
   unfolding unopened
-  turned j q = ap (λ (y : Reply). y .number) (by-number m n start j q)
+  turned j q = ap (λ (y : Reply). y .number) (by-number m n start floors j q)
 
-  in-count : openNumber m n start ≡ 0 → opened m n start .items ≤ 32
-  unfolding openNumber opened badItems
-  in-count q = in-range 32 m (first-none 0 (badItems m) (on 2 (badBidders n) ∷ on 3 (badLength start m) ∷ on 4 (anyOver start) ∷ []) q .0) .1
+  in-count : openAboveNumber m n start floors ≡ 0 → opened m n start floors .items ≤ 32
+  unfolding openAboveNumber opened badItems
+  in-count q = in-range 32 m (first-none 0 (badItems m) _ q .0) .1
 
-  pub open-items : (x : Reply) → x ≡ openAuction m n start → x .number ≡ 0 → x .next .items ≤ 32
-  open-items x e z = go (openNumber m n start) refl
+  pub above-items : (x : Reply) → x ≡ openAbove m n start floors → x .number ≡ 0 → x .next .items ≤ 32
+  above-items x e z = go (openAboveNumber m n start floors) refl
     where
-      go : (k : ℕ) → openNumber m n start ≡ k → x .next .items ≤ 32
+      go : (k : ℕ) → openAboveNumber m n start floors ≡ k → x .next .items ≤ 32
       go zero q = subst (λ (y : Reply). y .next .items ≤ 32) (sym (e ∙ accepted q)) (in-count q)
       go (suc j) q = let bad : suc j ≡ 0 = sym (turned j q) ∙ sym (ap (λ (y : Reply). y .number) e) ∙ z in absurd (omega arith)
+
+pub open-items : (m n : ℕ) (start : List ℕ) (x : Reply) → x ≡ openAuction m n start → x .number ≡ 0 → x .next .items ≤ 32
+open-items m n start x e = above-items m n start (replicate m 0) x (e ∙ sym (zero-floors m n start))
 
 settled-items : (r : Auction) (o : Round) → settled r o .items ≡ r .items
 unfolding settled

@@ -1,4 +1,5 @@
-pub mod Prices
+pub mod Applied
+pub mod Amounts
 pub mod Lines
 pub mod Enough
 pub mod Writing

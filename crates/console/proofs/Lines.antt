@@ -11,11 +11,11 @@ use Rattle.digits.specs.Reading.{_>>=_, numberAt, numberIn, asNumber}
 use Rattle.digits.specs.declared.Number.{Number}
 use Rattle.digits.specs.declared.Number.the-variants.{Is, Nothing}
 use Rattle.digits.proofs.Walking.{was-number, was-nothing}
-use Rattle.console.specs.Orders.{starts, alone, startsAt, opening, reporting, orderOf}
+use Rattle.console.specs.Orders.{starts, alone, amountsAt, opening, reporting, orderOf}
 use Rattle.console.specs.Steps.{isRead, letterOrder}
 use Rattle.console.specs.declared.Order.{Order}
-use Rattle.console.specs.declared.Order.the-variants.{Open, Report, End, Clear, Read, Unknown}
-use Rattle.console.proofs.Prices.{not-read}
+use Rattle.console.specs.declared.Order.the-variants.{Open, OpenAbove, Report, End, Clear, Read, Unknown}
+use Rattle.console.proofs.Amounts.{not-read}
 
 -- ---- what was read, as the code has it
 
@@ -25,29 +25,32 @@ number-is n at line r x l e q = was-number n line at x l (sym e ∙ q)
 pub number-not : (n at : ℕ) (line : List ℕ) (r : Number) → n ≤ 8 → r ≡ asNumber (numberIn n line at) → r ≡ Nothing → numberAt n line at ≡ none
 number-not n at line r l e q = was-nothing n line at l (sym e ∙ q)
 
-module _ (line : List ℕ) where
-  -- ---- o
+-- ---- o and f
 
-  pub no-items : numberAt 2 line 1 ≡ none → Unknown ≡ Option·getD (opening line) Unknown
+module _ (order : ℕ → ℕ → Order) (line : List ℕ) where
+  pub no-items : numberAt 2 line 1 ≡ none → Unknown ≡ Option·getD (opening order line) Unknown
   unfolding opening
   no-items e = simp e
 
-  pub no-bidders : (m : ℕ) → numberAt 2 line 1 ≡ some m → numberAt 2 line 3 ≡ none → Unknown ≡ Option·getD (opening line) Unknown
+  pub no-bidders : (m : ℕ) → numberAt 2 line 1 ≡ some m → numberAt 2 line 3 ≡ none → Unknown ≡ Option·getD (opening order line) Unknown
   unfolding opening
   no-bidders m e f = simp (e, f)
 
-  pub no-starts : (m n : ℕ) → numberAt 2 line 1 ≡ some m → numberAt 2 line 3 ≡ some n → isRead (startsAt line) ≡ false → Unknown ≡ Option·getD (opening line) Unknown
+  pub no-amounts : (m n : ℕ) → numberAt 2 line 1 ≡ some m → numberAt 2 line 3 ≡ some n → isRead (amountsAt line) ≡ false
+      → Unknown ≡ Option·getD (opening order line) Unknown
   unfolding opening
-  no-starts m n e f g = simp (e, f, not-read (startsAt line) g)
+  no-amounts m n e f g = simp (e, f, not-read (amountsAt line) g)
 
-  pub an-opening : (m n : ℕ) → numberAt 2 line 1 ≡ some m → numberAt 2 line 3 ≡ some n → isRead (startsAt line) ≡ true → Open m n ≡ Option·getD (opening line) Unknown
+  pub an-opening : (m n : ℕ) → numberAt 2 line 1 ≡ some m → numberAt 2 line 3 ≡ some n → isRead (amountsAt line) ≡ true
+      → order m n ≡ Option·getD (opening order line) Unknown
   unfolding opening
-  an-opening m n e f g = simp (e, f) (go (startsAt line) g)
+  an-opening m n e f g = simp (e, f) (go (amountsAt line) g)
     where
-      go : (o : Option (List ℕ)) → isRead o ≡ true → Open m n ≡ Option·getD (o >>= λ xs. some (Open m n)) Unknown
+      go : (o : Option (List ℕ)) → isRead o ≡ true → order m n ≡ Option·getD (o >>= λ xs. some (order m n)) Unknown
       go none h = absurd (false≢true h)
       go (some xs) h = refl
 
+module _ (line : List ℕ) where
   -- ---- r
 
   pub not-long : (length line ≡ 13 → ⊥) → Unknown ≡ Option·getD (reporting line) Unknown
@@ -79,30 +82,38 @@ module _ (line : List ℕ) where
   -- ---- the first byte
 
   module _ (b : ℕ) (at : b ≡ getD line 0 0) where
-    by-o : b ≡ 111 → starts 111 line ≡ true
+    by-letter : (x : ℕ) → b ≡ x → starts x line ≡ true
     unfolding starts
-    by-o e = eq-eqb (getD line 0 0) 111 (sym at ∙ e)
+    by-letter x e = eq-eqb (getD line 0 0) x (sym at ∙ e)
 
-    pub opens-it : b ≡ 111 → (o : Order) → o ≡ Option·getD (opening line) Unknown → o ≡ orderOf line
+    pub opens-it : b ≡ 111 → (o : Order) → o ≡ Option·getD (opening Open line) Unknown → o ≡ orderOf line
     unfolding orderOf
-    opens-it e o q = q ∙ simp (by-o e)
+    opens-it e o q = q ∙ simp (by-letter 111 e)
 
     not-starts : (x : ℕ) → (b ≡ x → ⊥) → starts x line ≡ false
     unfolding starts
     not-starts x ne = ne-eqb (getD line 0 0) x (λ e. ne (at ∙ e))
 
-    pub reports-it : (b ≡ 111 → ⊥) → b ≡ 114 → (o : Order) → o ≡ Option·getD (reporting line) Unknown → o ≡ orderOf line
-    unfolding orderOf
-    reports-it ne e o q = let r : starts 114 line ≡ true = unfold starts in eq-eqb (getD line 0 0) 114 (sym at ∙ e) in q ∙ simp (not-starts 111 ne, r)
+    module _ (no : b ≡ 111 → ⊥) where
+      pub opens-above-it : b ≡ 102 → (o : Order) → o ≡ Option·getD (opening OpenAbove line) Unknown → o ≡ orderOf line
+      unfolding orderOf
+      opens-above-it e o q = q ∙ simp (not-starts 111 no, by-letter 102 e)
 
-    module _ (no : b ≡ 111 → ⊥) (nr : b ≡ 114 → ⊥) where
-      pub not-one : (length line ≡ 1 → ⊥) → Unknown ≡ orderOf line
-      unfolding orderOf alone
-      not-one ne = simp (not-starts 111 no, not-starts 114 nr, ne-eqb (length line) 1 ne)
+      module _ (nf : b ≡ 102 → ⊥) where
+        pub reports-it : b ≡ 114 → (o : Order) → o ≡ Option·getD (reporting line) Unknown → o ≡ orderOf line
+        unfolding orderOf
+        reports-it e o q = q ∙ simp (not-starts 111 no, not-starts 102 nf, by-letter 114 e)
 
-      pub one-letter : length line ≡ 1 → (o : Order) → o ≡ letterOrder b → o ≡ orderOf line
-      unfolding orderOf alone
-      one-letter e o q = q ∙ ap letterOrder at ∙ simp (not-starts 111 no, not-starts 114 nr, eq-eqb (length line) 1 e) (unfold starts letterOrder in refl)
+        module _ (nr : b ≡ 114 → ⊥) where
+          pub not-one : (length line ≡ 1 → ⊥) → Unknown ≡ orderOf line
+          unfolding orderOf alone
+          not-one ne = simp (not-starts 111 no, not-starts 102 nf, not-starts 114 nr, ne-eqb (length line) 1 ne)
+
+          pub one-letter : length line ≡ 1 → (o : Order) → o ≡ letterOrder b → o ≡ orderOf line
+          unfolding orderOf alone
+          one-letter e o q =
+              q ∙ ap letterOrder at
+              ∙ simp (not-starts 111 no, not-starts 102 nf, not-starts 114 nr, eq-eqb (length line) 1 e) (unfold starts letterOrder in refl)
 
 -- ---- a letter
 

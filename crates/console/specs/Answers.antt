@@ -6,13 +6,13 @@ use Rattle.rule.specs.Round.{Round, raised, lowered, closed}
 use Rattle.digits.specs.Digits.{hex}
 use Rattle.lines.specs.Lines.{numberText, numberLine, pricesLine}
 use Rattle.reports.specs.Report.{saying}
-use Rattle.live.specs.Calls.{openAuction, report, clear, Ending, gives, refused, endAnswer, endNext}
+use Rattle.live.specs.Calls.{openAuction, openAbove, report, clear, Ending, gives, refused, endAnswer, endNext}
 use Rattle.live.specs.Reading.{readNumber, sheetOf}
 use Rattle.live.specs.declared.Auction.{Auction}
 use Rattle.live.specs.declared.Reply.{Reply}
-use Rattle.console.specs.Orders.{orderOf, startsOf}
+use Rattle.console.specs.Orders.{orderOf, amountsOf, startsOf, floorsOf}
 use Rattle.console.specs.declared.Order.{Order}
-use Rattle.console.specs.declared.Order.the-variants.{Open, Report, End, Clear, Read, Unknown}
+use Rattle.console.specs.declared.Order.the-variants.{Open, OpenAbove, Report, End, Clear, Read, Unknown}
 
 -- the prices of the record's items, 4 digits each, to the line's end
 unfoldable pub pricesText : Auction → List ℕ
@@ -54,7 +54,8 @@ reads r = let x : ℕ = readNumber r (replicate 271 0) in record { bytes = numbe
 
 -- an order on a record; 06 and no change for a line that is none
 unfoldable pub toldBy : Auction → (line : List ℕ) → Order → Told
-toldBy r line (Open m n) = opens r (openAuction m n (startsOf line))
+toldBy r line (Open m n) = opens r (openAuction m n (amountsOf line))
+toldBy r line (OpenAbove m n) = opens r (openAbove m n (startsOf m line) (floorsOf m line))
 toldBy r line (Report b null set) = replies (report r b (saying null set))
 toldBy r line End = ends (endAnswer r) (endNext r)
 toldBy r line Clear = replies (clear r)

@@ -12,12 +12,17 @@ use Rattle.live.specs.declared.Auction.{Auction}
 use Rattle.console.specs.Answers.{Told, told}
 use Rattle.console.specs.declared.Answered.{Answered}
 use Rattle.console.specs.declared.Order.{Order}
-use Rattle.console.specs.declared.Order.the-variants.{End, Clear, Read, Unknown}
+use Rattle.console.specs.declared.Order.the-variants.{Open, OpenAbove, End, Clear, Read, Unknown}
 
 -- something was read
 abbrev pub isRead : {A : Type 0} → Option A → Bool
 isRead none = false
 isRead (some a) = true
+
+-- an opening, with floors or without
+abbrev pub openBy : (above : Bool) → ℕ → ℕ → Order
+openBy true m n = OpenAbove m n
+openBy false m n = Open m n
 
 -- the order of a line of one byte that neither opens nor reports
 unfoldable pub letterOrder : ℕ → Order

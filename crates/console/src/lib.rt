@@ -1,7 +1,8 @@
 // The console of the live auction: what a line says, and what is answered to it. A line comes without its newline.
 //
-// `o` + 2 hexadecimal digits items + 2 bidders + 4 for each starting price opens; `r` + 2 digits bidder + 01 or 00 for null + 8 digits item set
-// reports; `e` ends the round; `c` clears the reports; `s` reads the close. Any other line is answered 06.
+// `o` + 2 hexadecimal digits items + 2 bidders + 4 for each starting price opens; `f` opens with floors, 4 digits for each behind those of the starting
+// prices; `r` + 2 digits bidder + 01 or 00 for null + 8 digits item set reports; `e` ends the round; `c` clears the reports; `s` reads the close. Any other
+// line is answered 06.
 use digits::Number;
 use live::Auction;
 use live::Ended;
@@ -13,21 +14,22 @@ ghost use mathlib.Core.Bool.{true};
 ghost use mathlib.Core.List.{_++_};
 ghost use mathlib.Core.Option.{Option·getD};
 ghost use Prim.Native.Nat.{_+_, _*_, _-_, _≤_, _<_, min};
-ghost use lib.ListN.{length, getD};
+ghost use lib.ListN.{length, getD, take, drop};
 ghost use lib.Seq.{sets};
 ghost use Rattle.sets.specs.Lists.{places};
 ghost use Rattle.digits.specs.Digits.{hex};
 ghost use Rattle.lines.specs.Lines.{numberText};
 ghost use Rattle.digits.specs.Reading.{numberAt};
 ghost use Rattle.rule.specs.Round.{Round};
-ghost use Rattle.live.specs.Calls.{openAuction, endingOf, gives};
-ghost use Rattle.console.specs.Orders.{opening, reporting, orderOf, startsAt, startsOf};
+ghost use Rattle.live.specs.Calls.{openAuction, openAbove, endingOf, gives};
+ghost use Rattle.console.specs.Orders.{opening, reporting, orderOf, amountsAt, amountsOf, startsOf, floorsOf};
 ghost use Rattle.console.specs.Answers.{pricesText, opens, replies, ends, reads};
-ghost use Rattle.console.specs.Steps.{letterOrder, isRead, Puts, toldTo, Answers};
+ghost use Rattle.console.specs.Steps.{openBy, letterOrder, isRead, Puts, toldTo, Answers};
 
-// The order of a line. The starting prices of an opening stay in the line.
+// The order of a line. The starting prices and floors of an opening stay in the line.
 pub enum Order {
     Open(usize, usize),
+    OpenAbove(usize, usize),
     Report(usize, bool, u32),
     End,
     Clear,
@@ -61,8 +63,8 @@ fn rest(line: &[u8]) -> usize
     line.len() - 5
 }
 
-// Whether starting price i + 1 stands in the line.
-fn price_there(line: &[u8], i: usize) -> bool
+// Whether amount i + 1 stands in the line.
+fn amount_there(line: &[u8], i: usize) -> bool
     requires { ⌜ 4 * i ≤ length (now line) ⌝ }
     ensures { λ r. ⌜ r ≡ isRead (numberAt 4 (now (line .entry)) (5 + 4 * i)) ⌝ }
 {
@@ -73,9 +75,9 @@ fn price_there(line: &[u8], i: usize) -> bool
     }
 }
 
-// Whether whole starting prices stand behind the counts.
-fn starts_there(line: &[u8]) -> bool
-    ensures { λ r. ⌜ r ≡ isRead (startsAt (now (line .entry))) ⌝ }
+// Whether whole amounts stand behind the counts.
+fn amounts_there(line: &[u8]) -> bool
+    ensures { λ r. ⌜ r ≡ isRead (amountsAt (now (line .entry))) ⌝ }
 {
     let bytes = rest(line);
     if bytes % 4 != 0 {
@@ -84,7 +86,7 @@ fn starts_there(line: &[u8]) -> bool
     let count = bytes / 4;
     let mut i: usize = 0;
     while i < count {
-        if !price_there(line, i) {
+        if !amount_there(line, i) {
             return false;
         }
         i += 1;
@@ -92,33 +94,33 @@ fn starts_there(line: &[u8]) -> bool
     true
 }
 
-// Starting price i + 1, and 0 past the last.
-fn price(line: &[u8], i: usize) -> u16
-    requires { ⌜ (isRead (startsAt (now line)) ≡ true) × (i < 33) ⌝ }
-    ensures { λ r. ⌜ r ≡ getD (startsOf (now (line .entry))) i 0 ⌝ }
+// Amount i + 1, and 0 past the last.
+fn amount(line: &[u8], i: usize) -> u16
+    requires { ⌜ (isRead (amountsAt (now line)) ≡ true) × (i < 65) ⌝ }
+    ensures { λ r. ⌜ r ≡ getD (amountsOf (now (line .entry))) i 0 ⌝ }
 {
     if rest(line) / 4 <= i {
         return 0;
     }
     let x = digits::number_at(line, 5 + 4 * i, 4);
     match x {
-        Number::Is(p) => p as u16,
+        Number::Is(a) => a as u16,
         Number::Nothing => 0,
     }
 }
 
-// The first 33 starting prices: one more than there may be items, which is enough to tell that there are too many.
-fn starts(line: &[u8]) -> [u16; 33]
-    requires { ⌜ isRead (startsAt (now line)) ≡ true ⌝ }
-    ensures { λ r. ⌜ r ≡ places 33 (startsOf (now (line .entry))) ⌝ }
+// The first 65 amounts: one more than starting prices and floors of the most items, which is enough to tell that there are too many.
+fn first_amounts(line: &[u8]) -> [u16; 65]
+    requires { ⌜ isRead (amountsAt (now line)) ≡ true ⌝ }
+    ensures { λ r. ⌜ r ≡ places 65 (amountsOf (now (line .entry))) ⌝ }
 {
-    let mut start = [0u16; 33];
+    let mut amounts = [0u16; 65];
     let mut i: usize = 0;
-    while i < 33 {
-        start[i] = price(line, i);
+    while i < 65 {
+        amounts[i] = amount(line, i);
         i += 1;
     }
-    start
+    amounts
 }
 
 fn least(a: usize, b: usize) -> usize
@@ -127,19 +129,39 @@ fn least(a: usize, b: usize) -> usize
     if a < b { a } else { b }
 }
 
-// Opens with the line's starting prices.
+// Opens with the line's amounts, all of them starting prices.
 fn open_by(line: &[u8], items: usize, bidders: usize) -> Reply
-    requires { ⌜ isRead (startsAt (now line)) ≡ true ⌝ }
-    ensures { λ r. ⌜ r ≡ openAuction items bidders (startsOf (now (line .entry))) ⌝ }
+    requires { ⌜ isRead (amountsAt (now line)) ≡ true ⌝ }
+    ensures { λ r. ⌜ r ≡ openAuction items bidders (amountsOf (now (line .entry))) ⌝ }
 {
-    let start = starts(line);
-    let count = least(rest(line) / 4, 33);
-    live::open(items, bidders, &start[..count])
+    let amounts = first_amounts(line);
+    let count = least(rest(line) / 4, 65);
+    live::open(items, bidders, &amounts[..count])
 }
 
-// The order of a line that starts with o.
-fn opening(line: &[u8]) -> Order
-    ensures { λ r. ⌜ r ≡ Option·getD (opening (now (line .entry))) Order.Unknown ⌝ }
+// Opens with amounts: a starting price for each item, and the floors behind them.
+fn open_split(items: usize, bidders: usize, amounts: &[u16]) -> Reply
+    ensures { λ r. ⌜ r ≡ openAbove items bidders (take items (now (amounts .entry))) (drop items (now (amounts .entry))) ⌝ }
+{
+    let split = least(items, amounts.len());
+    let start = &amounts[..split];
+    let floors = &amounts[split..];
+    live::open_above(items, bidders, start, floors)
+}
+
+// Opens with the line's amounts, starting prices and floors.
+fn open_above_by(line: &[u8], items: usize, bidders: usize) -> Reply
+    requires { ⌜ isRead (amountsAt (now line)) ≡ true ⌝ }
+    ensures { λ r. ⌜ r ≡ openAbove items bidders (startsOf items (now (line .entry))) (floorsOf items (now (line .entry))) ⌝ }
+{
+    let amounts = first_amounts(line);
+    let count = least(rest(line) / 4, 65);
+    open_split(items, bidders, &amounts[..count])
+}
+
+// The order of a line that starts with o, or, above floors, with f.
+fn opening(line: &[u8], above: bool) -> Order
+    ensures { λ r. ⌜ r ≡ Option·getD (opening (openBy above) (now (line .entry))) Order.Unknown ⌝ }
 {
     let Number::Is(items) = digits::number_at(line, 1, 2) else {
         return Order::Unknown;
@@ -147,8 +169,11 @@ fn opening(line: &[u8]) -> Order
     let Number::Is(bidders) = digits::number_at(line, 3, 2) else {
         return Order::Unknown;
     };
-    if !starts_there(line) {
+    if !amounts_there(line) {
         return Order::Unknown;
+    }
+    if above {
+        return Order::OpenAbove(items as usize, bidders as usize);
     }
     Order::Open(items as usize, bidders as usize)
 }
@@ -197,7 +222,10 @@ pub fn order_of(line: &[u8]) -> Order
 {
     let first = first_byte(line);
     if first == b'o' {
-        return opening(line);
+        return opening(line, false);
+    }
+    if first == b'f' {
+        return opening(line, true);
     }
     if first == b'r' {
         return reporting(line);
@@ -313,6 +341,9 @@ pub fn answer(held: Auction, line: &[u8], out: &mut [u8]) -> Answered
     let o = order_of(line);
     match o {
         Order::Open(items, bidders) => opened(out, held, open_by(line, items, bidders)),
+        Order::OpenAbove(items, bidders) => {
+            opened(out, held, open_above_by(line, items, bidders))
+        }
         Order::Report(bidder, null, set) => replied(out, held.report(bidder, null, set)),
         Order::End => ended(out, held.end()),
         Order::Clear => replied(out, held.clear()),

@@ -1,8 +1,7 @@
 -- `console::answer` meets its contract. Assumes nothing.
+use mathlib.Core.Path.{refl}
 use borrow.Author.Needs.{needs}
-use Rattle.live.specs.Calls.{endingOf}
-use Rattle.console.specs.Answers.{opens, replies, ends, reads}
-use Rattle.console.proofs.Answering.{no-room, answers, told-open, told-report, told-end, told-clear, told-read, told-none, open-starts, open-items, end-items}
+use Rattle.console.proofs.Answering.{no-room, answers, told-open, told-above, told-report, told-end, told-clear, told-read, told-none, open-amounts, open-items, above-items, end-items}
 use Rattle.console.proofs.answer.Statement.{statement}
 use Rattle.console.proofs.answer.Tie as tie
 
@@ -16,13 +15,22 @@ enum-known-o : tie.Need-enum-known-o
 enum-known-o c = search needs
 
 open-by-requires : tie.Need-open-by-requires
-open-by-requires c κs = open-starts (c .before .before .before .before .before .before .before .before .args .line .now) (c .before .before .before .before .order-of .result) (c .before .before .o .given .0 .0) (c .before .before .o .given .0 .1 .0) (c .before .before .before .before .order-of .ensures) (c .before .before .o .given .1)
+open-by-requires c κs = open-amounts _ _ _ (c .before .before .before .before .order-of .ensures) (c .before .before .o .given .1) refl
 
 opened-requires : tie.Need-opened-requires
-opened-requires c κs = (c .before .before .before .before .before .before .if1 .left, open-items (c .before .before .before .o .given .0 .0) (c .before .before .before .o .given .0 .1 .0) _ (c .open-by .result) (c .open-by .ensures))
+opened-requires c κs = (c .before .before .before .before .before .before .if1 .left, open-items _ _ _ _ (c .open-by .ensures))
 
 enum-known-o-2 : tie.Need-enum-known-o-2
 enum-known-o-2 c = search needs
+
+open-above-by-requires : tie.Need-open-above-by-requires
+open-above-by-requires c κs = open-amounts _ _ _ (c .before .before .before .before .order-of .ensures) (c .before .before .o2 .given .1) refl
+
+opened-requires-2 : tie.Need-opened-requires-2
+opened-requires-2 c κs = (c .before .before .before .before .before .before .if1 .left, above-items _ _ _ _ _ (c .open-above-by .ensures))
+
+enum-known-o-3 : tie.Need-enum-known-o-3
+enum-known-o-3 c = search needs
 
 report-requires : tie.Need-report-requires
 report-requires c κs = search needs
@@ -37,7 +45,7 @@ end-requires : tie.Need-end-requires
 end-requires c κs = search needs
 
 ended-requires : tie.Need-ended-requires
-ended-requires c κs = (c .before .before .before .before .before .if1 .left, λ o q. end-items (c .before .before .before .before .before .before .before .before .args .held) (endingOf (c .end .result .ended)) (c .end .result .next) o (c .end .ensures .0) (c .end .ensures .1) q)
+ended-requires c κs = (c .before .before .before .before .before .if1 .left, λ o q. end-items _ _ _ o (c .end .ensures .0) (c .end .ensures .1) q)
 
 enum-told-2 : tie.Need-enum-told-2
 enum-told-2 c = search needs
@@ -65,68 +73,63 @@ same-length c = search needs
 
 returns-2 : tie.Need-returns-2
 returns-2 c =
-    let a = c .before .before .before .before .before .before .before .before .before .before .before .before .args in
-    let x = c .before .before .opened in
-    answers (a .held) (a .line .now) (a .out .now) (x .last .0) (x .result) (opens (a .held) (c .before .before .before .open-by .result)) (c .before .before .before .before .before .before .before .before .before .if1 .left)
-    (told-open (a .held) (a .line .now) (c .before .before .before .before .before .before .before .before .order-of .result) (c .before .before .before .before .before .before .before .before .order-of .ensures) (c .before .before .before .before .before .before .o .given .0 .0) (c .before .before .before .before .before .before .o .given .0 .1 .0) (c .before .before .before .before .before .before .o .given .1) (c .before .before .before .open-by .result) (c .before .before .before .open-by .ensures))
-    (x .ensures)
+    answers _ _ _ _ _ _ (c .before .before .before .before .before .before .before .before .before .if1 .left)
+    (told-open _ _ _ (c .before .before .before .before .before .before .before .before .order-of .ensures) _ _ (c .before .before .before .before .before .before .o .given .1) _ (c .before .before .before .open-by .ensures))
+    (c .before .before .opened .ensures)
 
 same-length-2 : tie.Need-same-length-2
 same-length-2 c = search needs
 
 returns-3 : tie.Need-returns-3
 returns-3 c =
-    let a = c .before .before .before .before .before .before .before .before .before .before .before .before .args in
-    let x = c .before .before .replied in
-    let o = c .before .before .before .before .before .before .o2 .given in
-    answers (a .held) (a .line .now) (a .out .now) (x .last .0) (x .result) (replies (c .before .before .before .report .result)) (c .before .before .before .before .before .before .before .before .before .if1 .left)
-    (told-report (a .held) (a .line .now) (c .before .before .before .before .before .before .before .before .order-of .result) (c .before .before .before .before .before .before .before .before .order-of .ensures) (o .0 .0) (o .0 .1 .0) (o .0 .1 .1 .0) (o .1) (c .before .before .before .report .result) (c .before .before .before .report .ensures))
-    (x .ensures)
+    answers _ _ _ _ _ _ (c .before .before .before .before .before .before .before .before .before .if1 .left)
+    (told-above _ _ _ (c .before .before .before .before .before .before .before .before .order-of .ensures) _ _ (c .before .before .before .before .before .before .o2 .given .1) _ (c .before .before .before .open-above-by .ensures))
+    (c .before .before .opened2 .ensures)
 
 same-length-3 : tie.Need-same-length-3
 same-length-3 c = search needs
 
 returns-4 : tie.Need-returns-4
 returns-4 c =
-    let a = c .before .before .before .before .before .before .before .before .before .before .before .args in
-    let x = c .before .before .ended in
-    let s = c .before .before .before .end in
-    answers (a .held) (a .line .now) (a .out .now) (x .last .0) (x .result) (ends (endingOf (s .result .ended)) (s .result .next)) (c .before .before .before .before .before .before .before .before .if1 .left)
-    (told-end (a .held) (a .line .now) (c .before .before .before .before .before .before .before .order-of .result) (c .before .before .before .before .before .before .before .order-of .ensures) (c .before .before .before .before .before .enum-told .given .1) (endingOf (s .result .ended)) (s .result .next) (s .ensures .0) (s .ensures .1))
-    (x .ensures)
+    answers _ _ _ _ _ _ (c .before .before .before .before .before .before .before .before .before .if1 .left)
+    (told-report _ _ _ (c .before .before .before .before .before .before .before .before .order-of .ensures) _ _ _ (c .before .before .before .before .before .before .o3 .given .1) _ (c .before .before .before .report .ensures))
+    (c .before .before .replied .ensures)
 
 same-length-4 : tie.Need-same-length-4
 same-length-4 c = search needs
 
 returns-5 : tie.Need-returns-5
 returns-5 c =
-    let a = c .before .before .before .before .before .before .before .before .before .before .before .args in
-    let x = c .before .before .replied2 in
-    answers (a .held) (a .line .now) (a .out .now) (x .last .0) (x .result) (replies (c .before .before .before .clear .result)) (c .before .before .before .before .before .before .before .before .if1 .left)
-    (told-clear (a .held) (a .line .now) (c .before .before .before .before .before .before .before .order-of .result) (c .before .before .before .before .before .before .before .order-of .ensures) (c .before .before .before .before .before .enum-told2 .given .1) (c .before .before .before .clear .result) (c .before .before .before .clear .ensures))
-    (x .ensures)
+    answers _ _ _ _ _ _ (c .before .before .before .before .before .before .before .before .if1 .left)
+    (told-end _ _ _ (c .before .before .before .before .before .before .before .order-of .ensures) (c .before .before .before .before .before .enum-told .given .1) _ _ (c .before .before .before .end .ensures .0) (c .before .before .before .end .ensures .1))
+    (c .before .before .ended .ensures)
 
 same-length-5 : tie.Need-same-length-5
 same-length-5 c = search needs
 
 returns-6 : tie.Need-returns-6
 returns-6 c =
-    let a = c .before .before .before .before .before .before .before .before .before .before .args in
-    let x = c .before .before .shown in
-    answers (a .held) (a .line .now) (a .out .now) (x .last .0) (x .result) (reads (a .held)) (c .before .before .before .before .before .before .before .if1 .left)
-    (told-read (a .held) (a .line .now) (c .before .before .before .before .before .before .order-of .result) (c .before .before .before .before .before .before .order-of .ensures) (c .before .before .before .before .enum-told3 .given .1))
-    (x .ensures)
+    answers _ _ _ _ _ _ (c .before .before .before .before .before .before .before .before .if1 .left)
+    (told-clear _ _ _ (c .before .before .before .before .before .before .before .order-of .ensures) (c .before .before .before .before .before .enum-told2 .given .1) _ (c .before .before .before .clear .ensures))
+    (c .before .before .replied2 .ensures)
 
 same-length-6 : tie.Need-same-length-6
 same-length-6 c = search needs
 
 returns-7 : tie.Need-returns-7
 returns-7 c =
-    let a = c .before .before .before .before .before .before .before .before .before .before .args in
-    let x = c .before .before .replied3 in
-    answers (a .held) (a .line .now) (a .out .now) (x .last .0) (x .result) (replies (record { number = 6; next = a .held })) (c .before .before .before .before .before .before .before .if1 .left)
-    (told-none (a .held) (a .line .now) (c .before .before .before .before .before .before .order-of .result) (c .before .before .before .before .before .before .order-of .ensures) (c .before .before .before .before .enum-told4 .given .1))
-    (x .ensures)
+    answers _ _ _ _ _ _ (c .before .before .before .before .before .before .before .if1 .left)
+    (told-read _ _ _ (c .before .before .before .before .before .before .order-of .ensures) (c .before .before .before .before .enum-told3 .given .1))
+    (c .before .before .shown .ensures)
+
+same-length-7 : tie.Need-same-length-7
+same-length-7 c = search needs
+
+returns-8 : tie.Need-returns-8
+returns-8 c =
+    answers _ _ _ _ _ _ (c .before .before .before .before .before .before .before .if1 .left)
+    (told-none _ _ _ (c .before .before .before .before .before .before .order-of .ensures) (c .before .before .before .before .enum-told4 .given .1))
+    (c .before .before .replied3 .ensures)
 
 pub answer-spec : {M : Type 1} → statement M
 answer-spec =
@@ -138,6 +141,9 @@ answer-spec =
     open-by-requires
     opened-requires
     enum-known-o-2
+    open-above-by-requires
+    opened-requires-2
+    enum-known-o-3
     report-requires
     replied-requires
     enum-told
@@ -161,4 +167,6 @@ answer-spec =
     same-length-5
     returns-6
     same-length-6
-    returns-7)
+    returns-7
+    same-length-7
+    returns-8)

@@ -1,4 +1,4 @@
--- `console::price_there` meets its contract. Assumes nothing.
+-- `console::amount_there` meets its contract. Assumes nothing.
 use Prim.Native.Nat.{ℕ, _+_, _*_}
 use mathlib.Core.Path.{sym, ap}
 use mathlib.Core.Option.{Option}
@@ -6,8 +6,8 @@ use native.Mathlib.Omega.{arith}
 use borrow.Author.Needs.{needs}
 use Rattle.console.specs.Steps.{isRead}
 use Rattle.console.proofs.Lines.{number-is, number-not}
-use Rattle.console.proofs.price_there.Statement.{statement}
-use Rattle.console.proofs.price_there.Tie as tie
+use Rattle.console.proofs.amount_there.Statement.{statement}
+use Rattle.console.proofs.amount_there.Tie as tie
 
 mul-number-at : tie.Need-mul-number-at
 mul-number-at c = search needs
@@ -34,8 +34,8 @@ returns-2 c =
     let a = c .before .before .before .before .args in
     sym (ap (λ (o : Option ℕ). isRead o) (number-not 4 (5 + 4 * a .i) (a .line .now) (c .before .before .number-at .result) (omega arith) (c .before .before .number-at .ensures) (c .enum-told2 .given .1)))
 
-pub price-there-spec : {M : Type 1} → statement M
-price-there-spec =
+pub amount-there-spec : {M : Type 1} → statement M
+amount-there-spec =
     tie.close
     (tie.spec
     mul-number-at

@@ -1,4 +1,4 @@
--- `console::price` meets its contract. Assumes nothing.
+-- `console::amount` meets its contract. Assumes nothing.
 use Prim.Native.Nat.{_+_, _*_, _<_}
 use mathlib.Core.Path.{_≡_, sym, _∙_}
 use mathlib.Core.Option.{some, Option·some-injective}
@@ -7,20 +7,20 @@ use lib.ListN.{getD}
 use borrow.Author.Needs.{needs}
 use Rattle.digits.specs.Reading.{numberAt}
 use Rattle.digits.proofs.Numbers.{number-read}
-use Rattle.console.specs.Orders.{startsOf}
+use Rattle.console.specs.Orders.{amountsOf}
 use Rattle.console.proofs.Lines.{number-is, number-not}
-use Rattle.console.proofs.Prices.{all-starts, past-starts, none-some}
-use Rattle.console.proofs.price.Statement.{statement}
-use Rattle.console.proofs.price.Tie as tie
+use Rattle.console.proofs.Amounts.{all-amounts, past-amounts, none-some}
+use Rattle.console.proofs.amount.Statement.{statement}
+use Rattle.console.proofs.amount.Tie as tie
 
 read : (c : tie.After-known-told) → numberAt 4 (c .before .before .before .before .before .before .before .args .line .now) (5 + 4 * c .before .before .before .before .before .before .before .args .i) ≡ some (c .before .x .given .0 .0)
 read c = let a = c .before .before .before .before .before .before .before .args in number-is 4 (5 + 4 * a .i) (a .line .now) (c .before .before .before .number-at .result) (c .before .x .given .0 .0) (omega arith) (c .before .before .before .number-at .ensures) (c .before .x .given .1)
 
-value : (c : tie.After-known-told) → c .before .x .given .0 .0 ≡ getD (startsOf (c .before .before .before .before .before .before .before .args .line .now)) (c .before .before .before .before .before .before .before .args .i) 0
+value : (c : tie.After-known-told) → c .before .x .given .0 .0 ≡ getD (amountsOf (c .before .before .before .before .before .before .before .args .line .now)) (c .before .before .before .before .before .before .before .args .i) 0
 value c =
     let a = c .before .before .before .before .before .before .before .args in
-    Option·some-injective (c .before .x .given .0 .0) (getD (startsOf (a .line .now)) (a .i) 0)
-    (sym (read c) ∙ all-starts (a .line .now) (c .before .before .before .before .before .before .before .pre .0) .1 (a .i) (omega (arith, c .before .before .before .before .before .rest .ensures)))
+    Option·some-injective (c .before .x .given .0 .0) (getD (amountsOf (a .line .now)) (a .i) 0)
+    (sym (read c) ∙ all-amounts (a .line .now) (c .before .before .before .before .before .before .before .pre .0) .1 (a .i) (omega (arith, c .before .before .before .before .before .rest .ensures)))
 
 small : (c : tie.After-known-told) → c .before .x .given .0 .0 < 65536
 small c =
@@ -33,7 +33,7 @@ rest-requires c κs = search needs
 returns : tie.Need-returns
 returns c =
     let line = c .before .before .before .args .line .now in
-    past-starts line (c .before .before .before .pre .0) (c .before .before .before .args .i) (omega (arith, c .before .rest .ensures))
+    past-amounts line (c .before .before .before .pre .0) (c .before .before .before .args .i) (omega (arith, c .before .rest .ensures))
 
 mul-number-at : tie.Need-mul-number-at
 mul-number-at c = search needs
@@ -60,10 +60,10 @@ returns-3 : tie.Need-returns-3
 returns-3 c =
     let a = c .before .before .before .before .before .before .args in
     let there = number-not 4 (5 + 4 * a .i) (a .line .now) (c .before .before .number-at .result) (omega arith) (c .before .before .number-at .ensures) (c .enum-told .given .1) in
-    absurd (none-some (getD (startsOf (a .line .now)) (a .i) 0) (sym there ∙ all-starts (a .line .now) (c .before .before .before .before .before .before .pre .0) .1 (a .i) (omega (arith, c .before .before .before .before .rest .ensures))))
+    absurd (none-some (getD (amountsOf (a .line .now)) (a .i) 0) (sym there ∙ all-amounts (a .line .now) (c .before .before .before .before .before .before .pre .0) .1 (a .i) (omega (arith, c .before .before .before .before .rest .ensures))))
 
-pub price-spec : {M : Type 1} → statement M
-price-spec =
+pub amount-spec : {M : Type 1} → statement M
+amount-spec =
     tie.close
     (tie.spec
     rest-requires

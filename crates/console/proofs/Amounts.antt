@@ -1,5 +1,5 @@
--- The starting prices of a line, number after number. Assumes nothing.
-use Prim.Native.Nat.{ℕ, zero, suc, _+_, _*_, _-_, _/_, _%_, _≤_, _<_}
+-- The amounts of a line, number after number. Assumes nothing.
+use Prim.Native.Nat.{ℕ, zero, suc, _+_, _*_, _-_, _/_, _%_, _≤_, _<_, min}
 use mathlib.Core.Path.{_≡_, refl, sym, ap, _∙_, subst}
 use mathlib.Core.Bool.{Bool, true, false, cond, false≢true, true≢false}
 use mathlib.Core.List.{List, [], _∷_}
@@ -12,7 +12,7 @@ use borrow.Author.Tests.{eq-eqb, ne-eqb, eqb-true}
 use Rattle.digits.specs.Reading.{_>>=_, numberAt}
 use Rattle.lines.specs.Reading.{numbersAt}
 use Rattle.digits.proofs.Gives.{gives, gave}
-use Rattle.console.specs.Orders.{startsAt, startsOf}
+use Rattle.console.specs.Orders.{amountsAt, amountsOf}
 use Rattle.console.specs.Steps.{isRead}
 
 -- what was read
@@ -78,36 +78,40 @@ module _ (line : List ℕ) where
   abbrev pub many : ℕ
   many = (length line - 5) / 4
 
-  pub odd-starts : ((length line - 5) % 4 ≡ 0 → ⊥) → false ≡ isRead (startsAt line)
-  unfolding startsAt
-  odd-starts ne = sym (ap (λ (b : Bool). isRead (cond b (numbersAt many 4 line 5) none)) (ne-eqb ((length line - 5) % 4) 0 ne))
+  pub odd-amounts : ((length line - 5) % 4 ≡ 0 → ⊥) → false ≡ isRead (amountsAt line)
+  unfolding amountsAt
+  odd-amounts ne = sym (ap (λ (b : Bool). isRead (cond b (numbersAt many 4 line 5) none)) (ne-eqb ((length line - 5) % 4) 0 ne))
 
-  starts-are : (length line - 5) % 4 ≡ 0 → startsAt line ≡ numbersAt many 4 line 5
-  unfolding startsAt
-  starts-are e = ap (λ (b : Bool). cond b (numbersAt many 4 line 5) none) (eq-eqb ((length line - 5) % 4) 0 e)
+  amounts-are : (length line - 5) % 4 ≡ 0 → amountsAt line ≡ numbersAt many 4 line 5
+  unfolding amountsAt
+  amounts-are e = ap (λ (b : Bool). cond b (numbersAt many 4 line 5) none) (eq-eqb ((length line - 5) % 4) 0 e)
 
-  pub starts-gone : (length line - 5) % 4 ≡ 0 → (i : ℕ) → i < many → isRead (numberAt 4 line (5 + 4 * i)) ≡ false → false ≡ isRead (startsAt line)
-  starts-gone e i l h = sym (ap isRead (starts-are e) ∙ one-gone line many 5 i l h)
+  pub amounts-gone : (length line - 5) % 4 ≡ 0 → (i : ℕ) → i < many → isRead (numberAt 4 line (5 + 4 * i)) ≡ false → false ≡ isRead (amountsAt line)
+  amounts-gone e i l h = sym (ap isRead (amounts-are e) ∙ one-gone line many 5 i l h)
 
-  pub starts-read : (length line - 5) % 4 ≡ 0 → (k : ℕ) → k ≡ many → ((i : ℕ) → i < k → isRead (numberAt 4 line (5 + 4 * i)) ≡ true) → true ≡ isRead (startsAt line)
-  starts-read e k q h = sym (ap isRead (starts-are e) ∙ all-there line many 5 (λ i l. h i (subst (λ (n : ℕ). i < n) (sym q) l)))
+  pub amounts-read : (length line - 5) % 4 ≡ 0 → (k : ℕ) → k ≡ many → ((i : ℕ) → i < k → isRead (numberAt 4 line (5 + 4 * i)) ≡ true) → true ≡ isRead (amountsAt line)
+  amounts-read e k q h = sym (ap isRead (amounts-are e) ∙ all-there line many 5 (λ i l. h i (subst (λ (n : ℕ). i < n) (sym q) l)))
 
-  -- the starting prices of a line in which they were read
-  even : isRead (startsAt line) ≡ true → (length line - 5) % 4 ≡ 0
-  unfolding startsAt
+  -- the amounts of a line in which they were read
+  even : isRead (amountsAt line) ≡ true → (length line - 5) % 4 ≡ 0
+  unfolding amountsAt
   even e = go (eqb ((length line - 5) % 4) 0) refl e
     where
       go : (b : Bool) → eqb ((length line - 5) % 4) 0 ≡ b → isRead (cond b (numbersAt many 4 line 5) none) ≡ true → (length line - 5) % 4 ≡ 0
       go true q h = eqb-true ((length line - 5) % 4) 0 q
       go false q h = absurd (false≢true h)
 
-  pub all-starts : isRead (startsAt line) ≡ true → (length (startsOf line) ≡ many) × ((i : ℕ) → i < many → numberAt 4 line (5 + 4 * i) ≡ some (getD (startsOf line) i 0))
-  unfolding startsOf
-  all-starts e =
-      let s = read-some (startsAt line) e in
-      let same : Option·getD (startsAt line) [] ≡ s .0 = ap (λ (o : Option (List ℕ)). Option·getD o []) (s .1) in
-      let r = each-there line many 5 (s .0) (sym (starts-are (even e)) ∙ s .1) in
+  pub all-amounts : isRead (amountsAt line) ≡ true → (length (amountsOf line) ≡ many) × ((i : ℕ) → i < many → numberAt 4 line (5 + 4 * i) ≡ some (getD (amountsOf line) i 0))
+  unfolding amountsOf
+  all-amounts e =
+      let s = read-some (amountsAt line) e in
+      let same : Option·getD (amountsAt line) [] ≡ s .0 = ap (λ (o : Option (List ℕ)). Option·getD o []) (s .1) in
+      let r = each-there line many 5 (s .0) (sym (amounts-are (even e)) ∙ s .1) in
       (ap length same ∙ r .0, λ i l. r .1 i l ∙ ap (λ (xs : List ℕ). some (getD xs i 0)) (sym same))
 
-  pub past-starts : isRead (startsAt line) ≡ true → (i : ℕ) → many ≤ i → 0 ≡ getD (startsOf line) i 0
-  past-starts e i l = sym (List·getD-eq-default (startsOf line) 0 {n = i} (omega (arith, all-starts e .0)))
+  pub past-amounts : isRead (amountsAt line) ≡ true → (i : ℕ) → many ≤ i → 0 ≡ getD (amountsOf line) i 0
+  past-amounts e i l = sym (List·getD-eq-default (amountsOf line) 0 {n = i} (omega (arith, all-amounts e .0)))
+
+  -- how many are read into 65 places
+  pub read-count : isRead (amountsAt line) ≡ true → (rest k : ℕ) → rest ≡ length line - 5 → k ≡ min (rest / 4) 65 → k ≡ min (length (amountsOf line)) 65
+  read-count e rest k r q = q ∙ ap (λ (n : ℕ). min (n / 4) 65) r ∙ ap (λ (n : ℕ). min n 65) (sym (all-amounts e .0))

@@ -1,0 +1,42 @@
+-- `console::open_above_by` meets its contract. Assumes nothing.
+use mathlib.Core.Path.{_∙_}
+use borrow.Author.Needs.{needs}
+use Rattle.console.specs.Orders.{startsOf, floorsOf}
+use Rattle.console.proofs.Amounts.{read-count}
+use Rattle.console.proofs.Enough.{first-65-above, part-length}
+use Rattle.console.proofs.open_above_by.Statement.{statement}
+use Rattle.console.proofs.open_above_by.Tie as tie
+
+first-amounts-requires : tie.Need-first-amounts-requires
+first-amounts-requires c κs = search needs
+
+rest-requires : tie.Need-rest-requires
+rest-requires c κs = search needs
+
+least-requires : tie.Need-least-requires
+least-requires c κs = search needs
+
+array-share-prefix-amounts : tie.Need-array-share-prefix-amounts
+array-share-prefix-amounts c = search needs
+
+slice-aggregate-open-split : tie.Need-slice-aggregate-open-split
+slice-aggregate-open-split c = part-length _ _ _ _ (c .before .before .before .first-amounts .ensures) (c .before .least .ensures)
+
+open-split-requires : tie.Need-open-split-requires
+open-split-requires c κs = search needs
+
+returns : tie.Need-returns
+unfolding startsOf floorsOf
+returns c = c .open-split .ensures ∙ first-65-above _ _ _ _ _ (c .before .before .before .before .first-amounts .ensures) (read-count (c .before .before .before .before .before .before .args .line .now) (c .before .before .before .before .before .before .pre) _ _ (c .before .before .before .rest .ensures) (c .before .before .least .ensures))
+
+pub open-above-by-spec : {M : Type 1} → statement M
+open-above-by-spec =
+    tie.close
+    (tie.spec
+    first-amounts-requires
+    rest-requires
+    least-requires
+    array-share-prefix-amounts
+    slice-aggregate-open-split
+    open-split-requires
+    returns)
