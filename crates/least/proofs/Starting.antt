@@ -4,13 +4,12 @@ use mathlib.Core.Path.{_≡_, ap, _∙_}
 use mathlib.Core.List.{List}
 use mathlib.Core.Logic.{_⊎_, inl, inr}
 use native.Mathlib.Omega.{arith}
-use lib.ListN.{length, getD, replicate, List·getD-eq-default}
+use lib.ListN.{length, getD, List·getD-eq-default}
 use Rattle.sets.specs.Lists.{places}
 use Rattle.sets.proofs.Counting.{lt-or-le}
 use Rattle.sets.proofs.Lists.{places-length, places-at}
 use Rattle.rule.specs.Sheet.{amount}
 use Rattle.rule.specs.Equilibrium.{Below}
-use Rattle.rule.proofs.Limits.{amount-zeros}
 use Rattle.bids.specs.Fit.{Small}
 use Rattle.bids.proofs.Limits.{Fine}
 use Rattle.bids.proofs.Fitting.{start-fits, floors-fit, places-fit}
@@ -23,10 +22,6 @@ starts m xs ys long small e = record { small = places-fit xs small ys e .0; long
     past : (x : ℕ) → m ≤ x → (x < 32) ⊎ (32 ≤ x) → getD ys x 0 ≡ 0
     past x l (inl h) = ap (λ (z : List ℕ). getD z x 0) e ∙ places-at 32 xs x h ∙ List·getD-eq-default xs 0 {n = x} (omega (arith, long, l))
     past x l (inr h) = List·getD-eq-default ys 0 {n = x} (omega (arith, ap length e, places-length 32 xs, h))
-
-pub zeros-below : (p : List ℕ) → Below (replicate 64 0) p
-unfolding Below
-zeros-below p i = omega (arith, amount-zeros 64 i)
 
 module _ {m n : ℕ} {start floors bids : List ℕ} (f : Fine m n start floors bids) where
   pub short-floors : length floors ≤ 32

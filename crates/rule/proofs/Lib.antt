@@ -13,6 +13,7 @@ pub mod Wanted
 pub mod Zeros
 pub mod AtPrices
 pub mod EmptySets
+pub mod NoFloors
 pub mod Moves
 pub mod Furthest
 pub mod Rising

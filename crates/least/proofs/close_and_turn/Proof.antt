@@ -3,13 +3,14 @@ use Prim.Native.Nat.{ℕ}
 use mathlib.Core.Path.{_≡_, sym, _∙_}
 use mathlib.Core.List.{List}
 use lib.ListN.{replicate}
+use Rattle.rule.proofs.NoFloors.{zeros-below}
 use Rattle.bids.specs.Lent.{rowsOf}
 use Rattle.bids.specs.Refusal.{sealedAboveRefusal}
 use Rattle.bids.proofs.Limits.{Fine, fine}
 use Rattle.bids.proofs.Fitting.{bids-fit}
 use Rattle.least.proofs.Lifting.{from-zero}
 use Rattle.least.proofs.Narrowing.{narrow-least}
-use Rattle.least.proofs.Starting.{from-floors, from-start, zeros-below, floors-below, short-floors, short-start}
+use Rattle.least.proofs.Starting.{from-floors, from-start, floors-below, short-floors, short-start}
 use borrow.Author.Needs.{needs}
 use Rattle.least.proofs.close_and_turn.Statement.{statement}
 use Rattle.least.proofs.close_and_turn.Tie as tie
@@ -45,7 +46,7 @@ rise-requires : tie.Need-rise-requires
 rise-requires c κs =
     let a = c .before .before .before .before .before .before .before .before .before .before .before .before .before .before .before .args in
     let f = passed (a .items) (a .bidders) (a .start .now) (a .floors .now) (a .bids .now) (c .before .before .before .before .before .before .before .before .before .before .before .refusal-above .ensures) (c .before .before .before .before .before .before .before .before .before .before .if1 .left) in
-    ((replicate 64 0, from-zero (f .max-items) (c .before .before .before .before .fall .ensures), zeros-below _), from-floors f (c .before .before .before .in-places .result) (c .before .before .before .in-places .ensures))
+    ((replicate 64 0, from-zero (f .max-items) (c .before .before .before .before .fall .ensures), zeros-below 64 _), from-floors f (c .before .before .before .in-places .result) (c .before .before .before .in-places .ensures))
 
 narrow-requires : tie.Need-narrow-requires
 narrow-requires c κs = search needs
