@@ -2,8 +2,9 @@
 // carry each result over.
 ghost use mathlib.Core.Path.{_≡_};
 ghost use Prim.Native.Nat.{_+_, _-_, _≤_, min, max};
-ghost use lib.ListN.{getD};
-ghost use Rattle.sets.specs.Count.{toNat};
+ghost use lib.Dec.{ltb};
+ghost use lib.ListN.{length, getD};
+ghost use Rattle.sets.specs.Count.{toNat, anyBelow};
 ghost use Rattle.sets.specs.Lists.{places};
 ghost use Rattle.rule.specs.Round.{lower};
 ghost use Rattle.rule.specs.Refusal.{anyOver, anyUnder};
@@ -92,9 +93,18 @@ pub fn lowered(prices: &[u16; 32], set: u32) -> [u16; 32]
     next
 }
 
-// Some amount is above 4,095: what 4 asks of starting prices and 5 of bids. The loop has no early end, so that the compiler takes several at a time.
-pub fn any_over(xs: &[u16]) -> bool
-    ensures { λ r. ⌜ r ≡ anyOver (now (xs .entry)) ⌝ }
+// The smaller of two counts.
+fn fewer(a: usize, b: usize) -> usize
+    ensures { λ r. ⌜ r ≡ min a b ⌝ }
+{
+    if b < a { b } else { a }
+}
+
+// The loops below have no early end, so that the compiler takes several places at a time.
+
+// Some amount is above the limit.
+fn any_past(xs: &[u16], limit: u16) -> bool
+    ensures { λ r. ⌜ r ≡ anyBelow (length (now (xs .entry))) (λ k. ltb limit (getD (now (xs .entry)) k 0)) ⌝ }
 {
     let mut most: u16 = 0;
     let mut i: usize = 0;
@@ -102,31 +112,39 @@ pub fn any_over(xs: &[u16]) -> bool
         most = larger(most, xs[i]);
         i += 1;
     }
-    4095 < most
+    limit < most
 }
 
-// What stands at a place, and 0 past the end.
-fn value(xs: &[u16], i: usize) -> u16
-    ensures { λ r. ⌜ r ≡ getD (now (xs .entry)) i 0 ⌝ }
+// Some amount is above 4,095: what 4 asks of starting prices, 5 of bids and 18 of floors.
+pub fn any_over(xs: &[u16]) -> bool
+    ensures { λ r. ⌜ r ≡ anyOver (now (xs .entry)) ⌝ }
 {
-    if i < xs.len() {
-        return xs[i];
+    any_past(xs, 4095)
+}
+
+// Of the first n prices some is below its floor.
+fn first_under(prices: &[u16], floors: &[u16], n: usize) -> bool
+    requires { ⌜ (n ≤ length (now prices)) × (n ≤ length (now floors)) ⌝ }
+    ensures { λ r. ⌜ r ≡ anyBelow n (λ k. ltb 0 (getD (now (floors .entry)) k 0 - getD (now (prices .entry)) k 0)) ⌝ }
+{
+    let mut most: u16 = 0;
+    let mut i: usize = 0;
+    while i < n {
+        most = larger(most, over(floors[i], prices[i]));
+        i += 1;
     }
-    0
+    0 < most
 }
 
 // Some price is below its floor; a floor past the last price is held against 0.
 pub fn any_under(prices: &[u16], floors: &[u16]) -> bool
     ensures { λ r. ⌜ r ≡ anyUnder (now (prices .entry)) (now (floors .entry)) ⌝ }
 {
-    let mut i: usize = 0;
-    while i < floors.len() {
-        if value(prices, i) < floors[i] {
-            return true;
-        }
-        i += 1;
+    let n = fewer(prices.len(), floors.len());
+    if first_under(prices, floors, n) {
+        return true;
     }
-    false
+    any_past(&floors[n..], 0)
 }
 
 // Starting prices, or floors, in 32 places; what stands past 32 is left out.
@@ -134,9 +152,10 @@ pub fn in_places(xs: &[u16]) -> [u16; 32]
     ensures { λ r. ⌜ r ≡ places 32 (now (xs .entry)) ⌝ }
 {
     let mut next = [0u16; 32];
+    let n = fewer(xs.len(), 32);
     let mut i: usize = 0;
-    while i < 32 {
-        next[i] = value(xs, i);
+    while i < n {
+        next[i] = xs[i];
         i += 1;
     }
     next

@@ -1,69 +1,61 @@
--- `prices::any_under` meets its contract. No price passed so far is below its floor. Assumes nothing.
-use Prim.Native.Nat.{ℕ, _-_, _≤_, _<_}
-use mathlib.Core.Path.{sym}
+-- `prices::any_under` meets its contract. Assumes nothing.
+use Prim.Native.Nat.{ℕ, _-_}
+use mathlib.Core.Path.{sym, ap, _∙_}
+use mathlib.Core.List.{List}
 use native.Mathlib.Omega.{arith}
-use lib.ListN.{length, getD}
-use borrow.Author.Count.{below-none, below-more}
-use Rattle.rule.proofs.Refusal.{under-some, under-not}
+use lib.Dec.{ltb}
+use lib.ListN.{length, getD, drop, length-drop}
+use lib.Seq.{take-all}
+use Rattle.sets.specs.Count.{anyBelow}
+use Rattle.prices.proofs.Amounts.{under-first, under-rest}
 use borrow.Author.Needs.{needs}
 use Rattle.prices.proofs.any_under.Statement.{statement}
 use Rattle.prices.proofs.any_under.Tie as tie
 
-abbrev Inv-loop : tie.InvT-loop
-Inv-loop prices floors i₀ i = (i ≤ length floors) × ((k : ℕ) → k < i → getD floors k 0 ≤ getD prices k 0)
+fewer-requires : tie.Need-fewer-requires
+fewer-requires c κs = search needs
 
-abbrev μ-loop : tie.MeasureT-loop
-μ-loop prices floors i₀ i = length floors - i
+first-under-requires : tie.Need-first-under-requires
+first-under-requires c κs = (omega (arith, c .fewer .ensures), omega (arith, c .fewer .ensures))
 
-loop-holds : tie.Need-loop-holds Inv-loop μ-loop
-loop-holds c = (omega arith, below-none _)
-
-value-requires : tie.Need-value-requires Inv-loop μ-loop
-value-requires c κs = search needs
-
-mul-if1 : tie.Need-mul-if1 Inv-loop μ-loop
-mul-if1 c = search needs
-
-shared-slice-read-if1 : tie.Need-shared-slice-read-if1 Inv-loop μ-loop
-shared-slice-read-if1 c = search needs
-
-returns : tie.Need-returns Inv-loop μ-loop
+returns : tie.Need-returns
 returns c =
-    let a = c .before .before .before .before .before .before .before .args in
-    let l = c .if1 .taken in
-    let e = c .before .before .value .ensures in
-    sym (under-some (a .prices .now) (a .floors .now) (c .before .before .before .before .loop .i) (c .before .before .before .loop-test .taken) (omega arith))
+    let a = c .before .before .before .before .before .args in
+    under-first (a .prices .now) (a .floors .now) (c .before .before .fewer .result) (c .before .before .fewer .ensures) (sym (c .before .first-under .ensures) ∙ c .if1 .taken)
 
-add-i : tie.Need-add-i Inv-loop μ-loop
-add-i c = search needs
+mul-any-past : tie.Need-mul-any-past
+mul-any-past c = search needs
 
-loop-less : tie.Need-loop-less Inv-loop μ-loop
-loop-less c = search needs
+sub-any-past : tie.Need-sub-any-past
+sub-any-past c = search needs
 
-loop-again : tie.Need-loop-again Inv-loop μ-loop
-loop-again c =
-    let at = c .before .before .before .before .loop in
-    let lt = c .before .before .before .loop-test .taken in
-    let e = c .before .before .value .ensures in
-    (omega arith, below-more _ _ (at .inv .1) (let l = c .if1 .left in omega arith))
+part-any-past-start : tie.Need-part-any-past-start
+part-any-past-start c = search needs
 
-returns-2 : tie.Need-returns-2 Inv-loop μ-loop
+part-any-past-end : tie.Need-part-any-past-end
+part-any-past-end c = search needs
+
+any-past-requires : tie.Need-any-past-requires
+any-past-requires c κs = search needs
+
+returns-2 : tie.Need-returns-2
 returns-2 c =
-    let a = c .before .before .before .before .args in
-    sym (under-not (a .prices .now) (a .floors .now) (λ k l. c .before .loop .inv .1 k (omega (arith, l, c .loop-test .left))))
+    let a = c .before .before .before .before .before .before .before .args in
+    let n = c .before .before .before .before .fewer .result in
+    let rest = take-all (length (a .floors .now) - n) (drop n (a .floors .now)) (omega (arith, length-drop {A = ℕ} n (a .floors .now))) in
+    under-rest (a .prices .now) (a .floors .now) n (c .before .before .before .before .fewer .ensures) (sym (c .before .before .before .first-under .ensures) ∙ c .before .before .if1 .left) (c .any-past .result)
+    (c .any-past .ensures ∙ ap (λ (xs : List ℕ). anyBelow (length xs) (λ k. ltb 0 (getD xs k 0))) rest)
 
 pub any-under-spec : {M : Type 1} → statement M
 any-under-spec =
     tie.close
     (tie.spec
-    Inv-loop
-    μ-loop
-    loop-holds
-    value-requires
-    mul-if1
-    shared-slice-read-if1
+    fewer-requires
+    first-under-requires
     returns
-    add-i
-    loop-less
-    loop-again
+    mul-any-past
+    sub-any-past
+    part-any-past-start
+    part-any-past-end
+    any-past-requires
     returns-2)
