@@ -1,3 +1,4 @@
+pub mod Applied
 pub mod Copying
 pub mod Lent
 pub mod Accepted

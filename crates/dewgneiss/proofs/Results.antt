@@ -1,9 +1,10 @@
 -- The lent lists after the call. Assumes nothing.
 use Prim.Native.Nat.{ℕ, zero, suc, _*_, _≤_}
-use mathlib.Core.Path.{_≡_, refl, sym, ap, _∙_}
+use mathlib.Core.Path.{_≡_, refl, sym, ap, _∙_, subst}
 use mathlib.Core.List.{List, [], _∷_}
 use native.Mathlib.Omega.{arith}
 use lib.ListN.{length, set, replicate}
+use Rattle.sets.specs.Lists.{places}
 use Rattle.rule.specs.Refusal.{badItems, badBidders, badLength, anyOver, badFloors}
 use Rattle.bids.specs.Refusal.{sealedRefusal, sealedAboveRefusal}
 use Rattle.bids.proofs.Limits.{fine}
@@ -49,3 +50,19 @@ counts-sealed m n start bids z = counts-above m n start (replicate m 0) bids (ap
 pub kept : (why : ℕ) (a b : List ℕ) → (why ≡ 0 → ⊥) → b ≡ byNumber why a b
 kept zero a b h = absurd (h refl)
 kept (suc why) a b h = refl
+
+-- what a call answers, which is the number, and leaves of an outcome
+abbrev Lends : (number m n : ℕ) (c : Closing) (rounds prices options : List ℕ) (why : ℕ) (rounds′ prices′ options′ : List ℕ) → Type 0
+Lends number m n c rounds prices options why rounds′ prices′ options′ =
+    (why ≡ number)
+    × ((rounds′ ≡ byNumber why (c .raised ∷ c .lowered ∷ []) rounds)
+    × ((prices′ ≡ byNumber why (places m (c .prices)) prices) × (options′ ≡ byNumber why (places n (c .assignment)) options)))
+
+-- what `lend` promises of the code's outcome, said of the outcome that it is
+pub lent : (m n : ℕ) (rounds prices options : List ℕ) {r c : Closing} {number why : ℕ} {rounds′ prices′ options′ : List ℕ} → r ≡ c
+    → withLengths (c .refusal) (unfit m n rounds prices options) ≡ number
+    → Lends (withLengths (r .refusal) (unfit m n rounds prices options)) m n r rounds prices options why rounds′ prices′ options′
+    → Lends number m n c rounds prices options why rounds′ prices′ options′
+lent m n rounds prices options {why = why} {rounds′ = rounds′} {prices′ = prices′} {options′ = options′} e q l =
+    let k = subst (λ (x : Closing). Lends (withLengths (x .refusal) (unfit m n rounds prices options)) m n x rounds prices options why rounds′ prices′ options′) e l in
+    (k .0 ∙ q, k .1)

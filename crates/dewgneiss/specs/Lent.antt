@@ -33,7 +33,8 @@ lentAboveRefusal m n start floors bids rounds prices options =
     ∷ on 3 (badLength bids (n * m))
     ∷ on 3 (unfit m n rounds prices options)
     ∷ on 4 (anyOver start)
-    ∷ on 18 (badFloors start floors) ∷ on 5 (anyOver bids)
+    ∷ on 18 (badFloors start floors)
+    ∷ on 5 (anyOver bids)
     ∷ [])
 
 -- the auction's own number, and 3 in its place

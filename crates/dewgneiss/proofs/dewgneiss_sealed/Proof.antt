@@ -1,12 +1,8 @@
 -- `dewgneiss::dewgneiss_sealed` meets its contract. Assumes nothing.
 use mathlib.Core.Path.{sym, ap, _∙_}
-use mathlib.Core.List.{[], _∷_}
-use Rattle.sets.specs.Lists.{places}
 use Rattle.auction.specs.declared.Closing.{Closing}
-use Rattle.sheet.specs.Close.{byNumber}
 use borrow.Author.Needs.{needs}
-use Rattle.dewgneiss.specs.Lent.{unfit, withLengths}
-use Rattle.dewgneiss.proofs.Results.{lent-sealed, counts-sealed}
+use Rattle.dewgneiss.proofs.Results.{lent-sealed, lent, counts-sealed}
 use Rattle.dewgneiss.proofs.dewgneiss_sealed.Statement.{statement}
 use Rattle.dewgneiss.proofs.dewgneiss_sealed.Tie as tie
 
@@ -31,17 +27,9 @@ returns : tie.Need-returns
 returns c =
     let a = c .before .before .before .before .before .before .before .before .before .before .before .before .before .before .before .before .args in
     let e = c .before .before .before .before .before .before .before .before .before .before .sealed .ensures .0 in
-    let w = c .before .before .before .before .before .before .lend in (
-      w .ensures .0 ∙ ap (λ (r : Closing). withLengths (r .refusal) (unfit (a .items) (a .bidders) (a .rounds .now) (a .prices .now) (a .options .now))) e
-          ∙ lent-sealed (a .items) (a .bidders) (a .start .now) (a .bids .now) (a .rounds .now) (a .prices .now) (a .options .now),
-      (
-        w .ensures .1 .0 ∙ ap (λ (r : Closing). byNumber (w .result) (r .raised ∷ r .lowered ∷ []) (a .rounds .now)) e,
-        (
-          w .ensures .1 .1 .0 ∙ ap (λ (r : Closing). byNumber (w .result) (places (a .items) (r .prices)) (a .prices .now)) e,
-          w .ensures .1 .1 .1 ∙ ap (λ (r : Closing). byNumber (w .result) (places (a .bidders) (r .assignment)) (a .options .now)) e,
-        ),
-      ),
-    )
+    lent (a .items) (a .bidders) (a .rounds .now) (a .prices .now) (a .options .now) e
+    (lent-sealed (a .items) (a .bidders) (a .start .now) (a .bids .now) (a .rounds .now) (a .prices .now) (a .options .now))
+    (c .before .before .before .before .before .before .lend .ensures)
 
 pub dewgneiss-sealed-spec : {M : Type 1} → statement M
 dewgneiss-sealed-spec = tie.close (tie.spec sealed-requires lend-requires same-length same-length-2 same-length-3 returns)
