@@ -43,7 +43,13 @@ pub four-first : (refusedBy (4096 ∷ []) (4097 ∷ []) (4096 ∷ []) ≡ 4) × 
 unfolding computing
 four-first = (refl, refl, refl)
 
--- a floor too many is 3 before that, and a floor at the starting price turns nothing down
-pub exact-floors : (refusedBy (4096 ∷ []) (0 ∷ 0 ∷ []) (4096 ∷ []) ≡ 3) × (refusedBy (4095 ∷ []) (4095 ∷ []) (1 ∷ []) ≡ 0)
+-- a starting price, a floor or a bid too many is 3 before that, and a floor at the starting price turns nothing down
+pub exact-lengths : (refusedBy (4096 ∷ 0 ∷ []) (4097 ∷ []) (4096 ∷ []) ≡ 3) × (refusedBy (4096 ∷ []) (0 ∷ 0 ∷ []) (4096 ∷ []) ≡ 3) × (refusedBy (4096 ∷ []) (4097 ∷ []) (4096 ∷ 0 ∷ []) ≡ 3)
+    × (refusedBy (4095 ∷ []) (4095 ∷ []) (1 ∷ []) ≡ 0)
 unfolding computing
-exact-floors = (refl, refl)
+exact-lengths = (refl, refl, refl, refl)
+
+-- before that 1, and then 2, where nothing fits
+pub counts-first : (sealedAboveRefusal 0 0 (1 ∷ []) [] [] ≡ 1) × (sealedAboveRefusal 33 65 [] [] [] ≡ 1) × (sealedAboveRefusal 1 0 [] [] [] ≡ 2) × (sealedAboveRefusal 32 65 [] [] [] ≡ 2)
+unfolding computing
+counts-first = (refl, refl, refl, refl)

@@ -290,7 +290,7 @@ pub four-first : opening (5 ∷ 4096 ∷ []) (3 ∷ 4097 ∷ []) ≡ 4
 unfolding computing
 four-first = refl
 
--- a floor is missing, or there is one too many: 3, and 3 comes before 4 and 18
+-- a floor or a starting price is missing, or there is one too many: 3, and 3 comes before 4 and 18
 pub floors-short : opening (5 ∷ 4096 ∷ []) (6 ∷ []) ≡ 3
 unfolding computing
 floors-short = refl
@@ -298,6 +298,15 @@ floors-short = refl
 pub floors-long : opening (5 ∷ 4096 ∷ []) (6 ∷ 0 ∷ 0 ∷ []) ≡ 3
 unfolding computing
 floors-long = refl
+
+pub start-short : opening (4096 ∷ []) (4097 ∷ 0 ∷ []) ≡ 3
+unfolding computing
+start-short = refl
+
+-- before that 1, and then 2, where nothing fits
+pub counts-first : (openAboveNumber 0 0 (1 ∷ []) [] ≡ 1) × (openAboveNumber 33 65 [] [] ≡ 1) × (openAboveNumber 1 0 [] [] ≡ 2) × (openAboveNumber 32 65 [] [] ≡ 2)
+unfolding computing
+counts-first = (refl, refl, refl, refl)
 
 -- the record holds the starting prices and the floors
 pub opens-above : openAbove 2 1 (5 ∷ 4 ∷ []) (3 ∷ 4 ∷ []) ≡ record { number = 0; next = holds 2 1 (5 ∷ 4 ∷ []) (3 ∷ 4 ∷ []) [] 0 0 Rising 0 0 }

@@ -10,20 +10,20 @@ use Rattle.sets.specs.Bit.{bit, isSet, has, setOf, each, any, size}
 use Rattle.sets.specs.Largest.{largestBelow, largest}
 use Rattle.sets.specs.Lists.{tabulate}
 use Rattle.sets.specs.Sum.{sum}
-use Rattle.rule.specs.Sheet.{amount, Sheet}
+use Rattle.rule.specs.Sheet.{amount, row, each4095, Sheet, withinLimits}
 use Rattle.rule.specs.Demand.{surplusAtLeast, best, Demand, demand, demands, wants, nth}
 use Rattle.rule.specs.Excess.{bidders, overdemanded, weaklyUnderdemanded, crowded, inExcess, inPositiveExcess, excessDemand, positiveExcessDemand, excessSupply, aboveFloors}
 use Rattle.rule.specs.Round.{raise, lower, raised, lowered, closed, roundFalling, round, move, roundAt, after, opening, path, mostRounds}
 use Rattle.rule.specs.Assignment.{option, holders, isAssignment, fits, Ahead, over-null, floorTotal}
 use Rattle.rule.specs.Equilibrium.{Below, Equilibrium, greatest}
-use Rattle.rule.specs.Closing.{roundOf, largestRise}
+use Rattle.rule.specs.Closing.{excessDemandAt, excessSupplyAt, FitsAt, roundOf, largestRise}
 use Rattle.rule.specs.Reasons.{biddersWith, reasonOf, reasonAt, Justified}
 use Rattle.rule.specs.Refusal.{anyOver, anyUnder, badFloors}
 use Rattle.rule.specs.Former.{formerDemand, formerDemands, formerRoundAt, formerAfter, formerPath, FormerEquilibrium}
 
 -- the definitions that the cases compute with
 computing : Unit {0}
-unfolding allBelow anyBelow count bit isSet has setOf each any size largestBelow largest tabulate amount surplusAtLeast best demand demands wants nth bidders overdemanded weaklyUnderdemanded crowded inExcess inPositiveExcess excessDemand positiveExcessDemand excessSupply aboveFloors raise lower roundFalling round move roundAt after opening path mostRounds option holders isAssignment fits greatest biddersWith reasonOf reasonAt formerDemand formerDemands formerRoundAt formerAfter formerPath sum floorTotal anyOver anyUnder badFloors
+unfolding allBelow anyBelow count bit isSet has setOf each any size largestBelow largest tabulate amount row each4095 withinLimits surplusAtLeast best demand demands wants nth bidders overdemanded weaklyUnderdemanded crowded inExcess inPositiveExcess excessDemand positiveExcessDemand excessSupply aboveFloors raise lower roundFalling round move roundAt after opening path mostRounds option holders isAssignment fits greatest biddersWith reasonOf reasonAt formerDemand formerDemands formerRoundAt formerAfter formerPath sum floorTotal anyOver anyUnder badFloors
 computing = tt
 
 -- a demand of these items alone, and one of null beside them
@@ -178,8 +178,17 @@ below zero = omega arith
 below (suc zero) = omega arith
 below (suc (suc k)) = omega arith
 
--- one item with floor 5 and one bid of 3: at 4 both sets are empty and nobody has the item, but prices below the floors do not balance
-pub not-below : Equilibrium 1 (5 ∷ []) ((3 ∷ []) ∷ []) (4 ∷ []) → ⊥
+-- one item with floor 5 and one bid of 3, which closes at 5. At 4 both sets are empty too, and that nobody has the item fits: so that the close is the only one, and
+-- the least, is true from the floors up alone (`Closing.unique`, `least`)
+abbrev pub low : Sheet
+low = record { items = 1; start = 5 ∷ []; floors = 5 ∷ []; bids = (3 ∷ []) ∷ [] }
+
+pub calm-below : (withinLimits low ≡ true) × (roundOf low 0 ≡ closed) × (excessDemandAt low (4 ∷ []) ≡ 0) × (excessSupplyAt low (4 ∷ []) ≡ 0) × FitsAt low (4 ∷ []) (0 ∷ [])
+unfolding computing
+calm-below = (refl, refl, refl, refl, refl)
+
+-- prices below the floors do not balance
+pub not-below : Equilibrium (low .items) (low .floors) (low .bids) (4 ∷ []) → ⊥
 unfolding Below amount
 not-below e = omega (arith, e .from-floors 1)
 

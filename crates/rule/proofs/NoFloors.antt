@@ -25,7 +25,7 @@ module _ (m : ℕ) where
   pub above-zero : (p : List ℕ) (i : ℕ) → i < suc m → has (aboveFloors m (replicate m 0) p) i ≡ ltb 0 (amount p i)
   above-zero p i l = aboveFloors-is m (replicate m 0) p i l ∙ ap (λ (x : ℕ). ltb x (amount p i)) (amount-zeros m i)
 
-  -- every prices balance at which some assignment fits
+  -- all prices balance at which some assignment fits
   pub balances-anywhere : (bids : List (List ℕ)) (q xs : List ℕ) → fits m (aboveFloors m (replicate m 0) q) (demands m bids q) xs ≡ true → Equilibrium m (replicate m 0) bids q
   balances-anywhere bids q xs e = record { from-floors = zeros-below q; assigned = xs; balances = e }
 
