@@ -109,6 +109,15 @@ mod linked {
     }
 }
 
+/// Calls a proved function: with numbers, with slices that it reads, and with slices that it writes to.
+macro_rules! call {
+    ($function:ident($($number:ident),*; $($read:ident),*; $($written:ident),*)) => {
+        // SAFETY: each address and length is that of one slice; those that are written to are lent to this call alone.
+        unsafe { $crate::linked::$function($($number,)* $($read.as_ptr(), $read.len(),)* $($written.as_mut_ptr(), $written.len(),)*) }
+    };
+}
+pub(crate) use call;
+
 /// The sealed auction: `start` has a price for each item, `bids` a bid for each item, bidder after bidder. A bid of 0 is none: nobody gets an item that they
 /// bid 0 for, also at price 0. Every floor is 0.
 ///
@@ -151,24 +160,7 @@ pub fn sealed_into(
     prices: &mut [u16],
     names: &mut [u8],
 ) -> Result<(), Refusal> {
-    // SAFETY: each address and length is that of one slice; the three that are written to are lent to this call alone.
-    let number = unsafe {
-        linked::dewgneiss_sealed(
-            items,
-            bidders,
-            start.as_ptr(),
-            start.len(),
-            bids.as_ptr(),
-            bids.len(),
-            rounds.as_mut_ptr(),
-            rounds.len(),
-            prices.as_mut_ptr(),
-            prices.len(),
-            names.as_mut_ptr(),
-            names.len(),
-        )
-    };
-    refusal::of(number)
+    refusal::of(call!(dewgneiss_sealed(items, bidders; start, bids; rounds, prices, names)))
 }
 
 /// [`sealed_above`] into lent memory, as [`sealed_into`].
@@ -183,26 +175,7 @@ pub fn sealed_above_into(
     prices: &mut [u16],
     names: &mut [u8],
 ) -> Result<(), Refusal> {
-    // SAFETY: each address and length is that of one slice; the three that are written to are lent to this call alone.
-    let number = unsafe {
-        linked::dewgneiss_sealed_above(
-            items,
-            bidders,
-            start.as_ptr(),
-            start.len(),
-            floors.as_ptr(),
-            floors.len(),
-            bids.as_ptr(),
-            bids.len(),
-            rounds.as_mut_ptr(),
-            rounds.len(),
-            prices.as_mut_ptr(),
-            prices.len(),
-            names.as_mut_ptr(),
-            names.len(),
-        )
-    };
-    refusal::of(number)
+    refusal::of(call!(dewgneiss_sealed_above(items, bidders; start, floors, bids; rounds, prices, names)))
 }
 
 /// The closing sheet of a bid sheet, both as bytes. Every floor is 0.
@@ -220,7 +193,5 @@ pub fn close_sheet(bytes: &[u8]) -> Result<Vec<u8>, Refusal> {
 ///
 /// Bytes past the sheet stay as they were; after a refusal all do. The sheet takes 15 + 4 · items + 2 · bidders bytes.
 pub fn close_sheet_into(bytes: &[u8], out: &mut [u8]) -> Result<(), Refusal> {
-    // SAFETY: each address and length is that of one slice; `out` is lent to this call alone.
-    let number = unsafe { linked::dewgneiss_close_sheet(bytes.as_ptr(), bytes.len(), out.as_mut_ptr(), out.len()) };
-    refusal::of(number)
+    refusal::of(call!(dewgneiss_close_sheet(; bytes; out)))
 }

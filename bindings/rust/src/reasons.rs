@@ -2,7 +2,7 @@
 
 use crate::accepted::written;
 use crate::turn::bids_beyond;
-use crate::{linked, refusal, sealed_above, Refusal, LONGEST_REASONS};
+use crate::{call, refusal, sealed_above, Refusal, LONGEST_REASONS};
 
 /// What a round did to prices.
 #[derive(Clone, Copy, Debug, PartialEq, Eq)]
@@ -64,8 +64,7 @@ pub fn reason_sheet(bytes: &[u8]) -> Result<Vec<u8>, Refusal> {
 /// The same into lent bytes, at their front, or the line of the number that turns the sheet down: how many bytes that is. Where it does not fit
 /// nothing is written, and the answer is 0; [`LONGEST_REASONS`] bytes are room for every one. Bytes past it stay as they were.
 pub fn reason_sheet_into(bytes: &[u8], out: &mut [u8]) -> usize {
-    // SAFETY: each address and length is that of one slice; `out` is lent to this call alone.
-    unsafe { linked::dewgneiss_reasons(bytes.as_ptr(), bytes.len(), out.as_mut_ptr(), out.len()) }
+    call!(dewgneiss_reasons(; bytes; out))
 }
 
 /// What a line says. It comes from the proved code, so its digits are digits.

@@ -11,11 +11,18 @@ fn opened() -> Console {
     console
 }
 
+/// A console that has opened nothing yet answers these lines so, one after the other.
+fn answers(lines: &[(&str, &str)]) {
+    let mut console = Console::new();
+    for (line, answer) in lines {
+        assert_eq!(console.answer(line.as_bytes()), *answer, "{line}");
+    }
+}
+
 /// Example 6 whole, from opening to close.
 #[test]
 fn example_6() {
-    let mut console = Console::new();
-    for (line, answer) in [
+    answers(&[
         ("o020300040004", "0000040004\n"),
         ("r010000000002", "00\n"),
         ("r020000000002", "00\n"),
@@ -38,9 +45,7 @@ fn example_6() {
         ("r030000000001", "00\n"),
         ("e", "00030000000000020006\n"),
         ("s", "00\n000002000002\n00020006\n000201\n"),
-    ] {
-        assert_eq!(console.answer(line.as_bytes()), answer, "{line}");
-    }
+    ]);
 }
 
 /// Before any opening there is nothing to call, and an opening that is refused opens nothing.
@@ -128,27 +133,24 @@ fn an_opening_begins_anew() {
 /// Two items with a floor, opened one above it: the second falls to its floor and no further, and stands there when nobody has it.
 #[test]
 fn an_auction_with_floors() {
-    let mut console = Console::new();
-    for (line, answer) in [
+    answers(&[
         ("f02010000000600000005", "0000000006\n"),
         ("r010000000001", "00\n"),
         ("e", "00020000000200000005\n"),
         ("r010000000001", "00\n"),
         ("e", "00030000000000000005\n"),
         ("s", "00\n000000000001\n00000005\n01\n"),
-    ] {
-        assert_eq!(console.answer(line.as_bytes()), answer, "{line}");
-    }
+    ]);
 }
 
-/// `examples/` has a live auction with floors and one without, each with what is answered; their last lines are a closing sheet's.
+/// `examples/` has a live auction with floors and one without, each with what is answered.
 #[test]
 fn the_examples() {
     let folder = std::path::Path::new(env!("CARGO_MANIFEST_DIR")).join("../../examples");
     for name in ["example-6", "floors"] {
         let text = |kind: &str| std::fs::read_to_string(folder.join(format!("{name}.{kind}"))).expect("an example");
         let mut console = Console::new();
-        let answers: String = text("live").lines().map(|line| console.answer(line.as_bytes())).collect();
-        assert_eq!(answers, text("answers"), "{name}");
+        let answered: String = text("live").lines().map(|line| console.answer(line.as_bytes())).collect();
+        assert_eq!(answered, text("answers"), "{name}");
     }
 }
