@@ -1,4 +1,4 @@
--- The numbers of the calls into lent lists, for one item and one bidder, by computation. The checker takes modules by name, and this one comes first: the first error
+-- The numbers of the calls into lent lists, by computation. The checker takes modules by name, and this one comes first: the first error
 -- that a wrong definition meets stands here. Assumes nothing.
 use Prim.Native.Nat.{ℕ}
 use mathlib.Core.Path.{_≡_, refl}
@@ -19,7 +19,7 @@ one x = x ∷ []
 abbrev two : List ℕ
 two = 0 ∷ 0 ∷ []
 
--- this starting price and bid, without floors, into lists that fit; and with a floor
+-- one item and one bidder, with this starting price and bid, into lists that fit: without floors, and with a floor
 abbrev pub plain : (start bid : ℕ) → ℕ
 plain start bid = lentRefusal 1 1 (one start) (one bid) two (one 0) (one 0)
 
@@ -35,20 +35,20 @@ pub in-turn-plain : (plain 4096 4096 ≡ 4) × (plain 4095 4096 ≡ 5) × (plain
 unfolding computing
 in-turn-plain = (refl, refl, refl)
 
--- before them 3: starting prices, floors, bids, rounds, prices or options of another length
+-- before them 3: starting prices, floors, bids, rounds, prices or options of another length, for one item and two bidders
 abbrev pub lengths : (start floors bids rounds prices options : List ℕ) → ℕ
-lengths = lentAboveRefusal 1 1
+lengths = lentAboveRefusal 1 2
 
-pub each-length : (lengths two (one 4097) (one 4096) two (one 0) (one 0) ≡ 3) × (lengths (one 4096) two (one 4096) two (one 0) (one 0) ≡ 3)
-    × (lengths (one 4096) (one 4097) [] two (one 0) (one 0) ≡ 3) × (lengths (one 4096) (one 4097) (one 4096) (one 0) (one 0) (one 0) ≡ 3)
-    × (lengths (one 4096) (one 4097) (one 4096) two two (one 0) ≡ 3) × (lengths (one 4096) (one 4097) (one 4096) two (one 0) [] ≡ 3)
+pub each-length : (lengths (one 4096) (one 4097) two two (one 0) two ≡ 4) × (lengths two (one 4097) two two (one 0) two ≡ 3) × (lengths (one 4096) two two two (one 0) two ≡ 3)
+    × (lengths (one 4096) (one 4097) (one 0) two (one 0) two ≡ 3) × (lengths (one 4096) (one 4097) two (one 0) (one 0) two ≡ 3)
+    × (lengths (one 4096) (one 4097) two two two two ≡ 3) × (lengths (one 4096) (one 4097) two two (one 0) (one 0) ≡ 3)
 unfolding computing
-each-length = (refl, refl, refl, refl, refl, refl)
+each-length = (refl, refl, refl, refl, refl, refl, refl)
 
-pub each-length-plain : (lentRefusal 1 1 two (one 4096) two (one 0) (one 0) ≡ 3) × (lentRefusal 1 1 (one 4096) [] two (one 0) (one 0) ≡ 3)
-    × (lentRefusal 1 1 (one 4096) (one 4096) (one 0) (one 0) (one 0) ≡ 3)
+pub each-length-plain : (lentRefusal 1 2 (one 4096) two two (one 0) two ≡ 4) × (lentRefusal 1 2 two two two (one 0) two ≡ 3) × (lentRefusal 1 2 (one 4096) (one 0) two (one 0) two ≡ 3)
+    × (lentRefusal 1 2 (one 4096) two (one 0) (one 0) two ≡ 3)
 unfolding computing
-each-length-plain = (refl, refl, refl)
+each-length-plain = (refl, refl, refl, refl)
 
 -- and before these 1 and 2, where nothing fits
 pub counts : (lentAboveRefusal 0 0 (one 0) [] [] [] [] [] ≡ 1) × (lentAboveRefusal 1 0 [] [] (one 0) [] [] [] ≡ 2)
