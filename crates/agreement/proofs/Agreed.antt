@@ -22,7 +22,7 @@ use Rattle.lines.specs.Lines.{newline, joined, pricesLine, closingSheet, closin
 use Rattle.round.specs.Reports.{reports}
 use Rattle.reports.specs.Report.{saying, isEmpty, beyond, unfit}
 use Rattle.live.specs.Auction.{place, hasReported, missing, reportsOf, itemsAbove, risingSet, fallingSet, countsFit, pricesFit, unusedPrices, floorsFit, fromFloors, unusedFloors, unusedPlaces, unusedBits, reportedFit, othersEmpty, roundsFit, closeFits, wellFormed}
-use Rattle.live.specs.Calls.{openAboveNumber, opened, unopened, openAbove, reportNumber, withReport, report, clearNumber, cleared, clear, atTop, endNumber, roundBy, settled, gives, refused, endAnswer, endNext}
+use Rattle.live.specs.Calls.{openAboveNumber, opened, unopened, openedBy, openAbove, reportNumber, withReport, report, clearNumber, cleared, clear, atTop, endNumber, roundBy, settled, gives, refused, endAnswer, endNext}
 use Rattle.live.specs.Reading.{readNumber, namesOf, sheetOf, readBytes}
 use Rattle.live.specs.declared.Auction.{Auction}
 use Rattle.live.specs.declared.Phase.{Phase}
@@ -33,7 +33,7 @@ use Rattle.agreement.specs.Agreement.{openingOf, liveRun, standsFor, all
 
 -- the definitions that the instances compute with
 computing : Unit {0}
-unfolding amount row surplusAtLeast best demand demands wants nth bidders crowded inExcess inPositiveExcess excessDemand positiveExcessDemand excessSupply aboveFloors raise lower roundFalling round move roundAt after opening path mostRounds close option holders isAssignment fits someList choose assignment allBelow anyBelow count bit isSet has setOf each any size lowest largestBelow largest sum priceSum first badItems badBidders badLength anyOver anyUnder badFloors badBidder tabulate places digit hex newline joined pricesLine closingSheet closingLength writtenTo reports place hasReported missing isEmpty beyond unfit reportsOf itemsAbove risingSet fallingSet countsFit pricesFit unusedPrices floorsFit fromFloors unusedFloors unusedPlaces unusedBits reportedFit othersEmpty roundsFit closeFits wellFormed openAboveNumber opened unopened openAbove saying reportNumber withReport report clearNumber cleared clear atTop endNumber roundBy settled endAnswer endNext readNumber namesOf sheetOf readBytes call run begin at phaseOf phase doesStand said saidAll isMissing sameBool sameDemand standsAs demandsStand tells machineReport machineClear machineReadNumber sealedSheet machineRead machineEndNumber next turned machineEnd machine behind machineRun openingOf liveRun standsFor allRounds
+unfolding amount row surplusAtLeast best demand demands wants nth bidders crowded inExcess inPositiveExcess excessDemand positiveExcessDemand excessSupply aboveFloors raise lower roundFalling round move roundAt after opening path mostRounds close option holders isAssignment fits someList choose assignment allBelow anyBelow count bit isSet has setOf each any size lowest largestBelow largest sum priceSum first badItems badBidders badLength anyOver anyUnder badFloors badBidder tabulate places digit hex newline joined pricesLine closingSheet closingLength writtenTo reports place hasReported missing isEmpty beyond unfit reportsOf itemsAbove risingSet fallingSet countsFit pricesFit unusedPrices floorsFit fromFloors unusedFloors unusedPlaces unusedBits reportedFit othersEmpty roundsFit closeFits wellFormed openAboveNumber opened unopened openedBy openAbove saying reportNumber withReport report clearNumber cleared clear atTop endNumber roundBy settled endAnswer endNext readNumber namesOf sheetOf readBytes call run begin at phaseOf phase doesStand said saidAll isMissing sameBool sameDemand standsAs demandsStand tells machineReport machineClear machineReadNumber sealedSheet machineRead machineEndNumber next turned machineEnd machine behind machineRun openingOf liveRun standsFor allRounds
 computing = tt
 
 -- ---- an instance: a sheet, calls with their answers, and the record after them

@@ -24,7 +24,7 @@ use Rattle.rule.proofs.Limits.{amount-beyond}
 use Rattle.lines.specs.Lines.{writtenTo}
 use Rattle.reports.specs.Report.{unfit}
 use Rattle.live.specs.Auction.{hasReported, missing, risingSet, wellFormed}
-use Rattle.live.specs.Calls.{isClosed, isFalling, isRising, atTop, openAboveNumber, zeros, opened, unopened, openAbove, openAuction, reportNumber, withReport, report, clearNumber, cleared, clear, endNumber, roundBy, settled, gives, refused, endAnswer, endNext}
+use Rattle.live.specs.Calls.{isClosed, isFalling, isRising, atTop, openAboveNumber, zeros, opened, unopened, openedBy, openAbove, openAuction, reportNumber, withReport, report, clearNumber, cleared, clear, endNumber, roundBy, settled, gives, refused, endAnswer, endNext}
 use Rattle.live.specs.Reading.{readNumber, sheetOf, readBytes}
 use Rattle.live.specs.declared.Auction.{Auction}
 use Rattle.live.specs.declared.Phase.the-variants.{Rising}
@@ -192,14 +192,11 @@ module _ (m n : ℕ) (start floors : List ℕ) where
       low-sum : badFloors start floors ≡ false → priceSum m (places 32 floors) ≤ priceSum m (places 32 start)
       low-sum e = unfold priceSum in sum-mono m (λ k. amount (places 32 floors) (suc k)) (λ k. amount (places 32 start) (suc k)) (λ k l. low e (suc k))
 
-  abbrev replied : ℕ → Reply
-  replied x = elim x [ zero ↦ record { number = 0; next = opened m n start floors } | suc j ↦ unopened (suc j) ]
-
   pub above-sound : openAbove m n start floors .number ≡ 0 → Sound (openAbove m n start floors .next)
-  unfolding openAbove
+  unfolding openAbove openedBy
   above-sound e = go (openAboveNumber m n start floors) refl e
     where
-      go : (x : ℕ) → openAboveNumber m n start floors ≡ x → replied x .number ≡ 0 → Sound (replied x .next)
+      go : (x : ℕ) → openAboveNumber m n start floors ≡ x → openedBy x m n start floors .number ≡ 0 → Sound (openedBy x m n start floors .next)
       go zero q h =
           record {
             placed = unfold opened in length-replicate {A = ℕ} 64 0;
@@ -225,10 +222,10 @@ zeros-eleven clearing = given 11 (not (wellFormed zeros)) _ (ap not zeros-malfor
 zeros-eleven (reading out) = given 11 (not (wellFormed zeros)) _ (ap not zeros-malformed)
 
 pub above-eleven : (m n : ℕ) (start floors : List ℕ) → (openAbove m n start floors .number ≡ 0 → ⊥) → (c : Call) → numberOf (call (openAbove m n start floors .next) c .answer) ≡ 11
-unfolding openAbove
+unfolding openAbove openedBy
 above-eleven m n start floors ne c = go (openAboveNumber m n start floors) ne
   where
-    go : (x : ℕ) → (replied m n start floors x .number ≡ 0 → ⊥) → numberOf (call (replied m n start floors x .next) c .answer) ≡ 11
+    go : (x : ℕ) → (openedBy x m n start floors .number ≡ 0 → ⊥) → numberOf (call (openedBy x m n start floors .next) c .answer) ≡ 11
     go zero h = absurd (h refl)
     go (suc j) h = unfold unopened in zeros-eleven c
 

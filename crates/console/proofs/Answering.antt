@@ -16,7 +16,7 @@ use Rattle.lines.specs.Lines.{writtenTo}
 use Rattle.digits.specs.Reading.{_>>=_, numberAt}
 use Rattle.lines.proofs.Stores.{sets-front}
 use Rattle.reports.specs.Report.{saying}
-use Rattle.live.proofs.Opening.{by-number, zero-floors}
+use Rattle.live.proofs.Opening.{by-number, by-none, zero-floors}
 use Rattle.live.specs.Calls.{openAboveNumber, opened, unopened, openAuction, openAbove, report, clear, endNumber, roundBy, settled, Ending, gives, refused, endAnswer, endNext}
 use Rattle.live.specs.declared.Auction.{Auction}
 use Rattle.live.specs.declared.Reply.{Reply}
@@ -153,10 +153,6 @@ open-amounts line o p e q h = go (isRead (amountsAt line)) refl
 -- ---- how many items a record has whose prices are told
 
 module _ (m n : ℕ) (start floors : List ℕ) where
-  accepted : openAboveNumber m n start floors ≡ 0 → openAbove m n start floors ≡ record { number = 0; next = opened m n start floors }
-  unfolding openAbove
-  accepted q = ap (λ (k : ℕ). elim k [ zero ↦ record { number = 0; next = opened m n start floors } | suc j ↦ unopened (suc j) ]) q
-
   turned : (j : ℕ) → openAboveNumber m n start floors ≡ suc j → openAbove m n start floors .number ≡ suc j
   unfolding unopened
   turned j q = ap (λ (y : Reply). y .number) (by-number m n start floors j q)
@@ -169,7 +165,7 @@ module _ (m n : ℕ) (start floors : List ℕ) where
   above-items x e z = go (openAboveNumber m n start floors) refl
     where
       go : (k : ℕ) → openAboveNumber m n start floors ≡ k → x .next .items ≤ 32
-      go zero q = subst (λ (y : Reply). y .next .items ≤ 32) (sym (e ∙ accepted q)) (in-count q)
+      go zero q = subst (λ (y : Reply). y .next .items ≤ 32) (sym (e ∙ by-none m n start floors q)) (in-count q)
       go (suc j) q = let bad : suc j ≡ 0 = sym (turned j q) ∙ sym (ap (λ (y : Reply). y .number) e) ∙ z in absurd (omega arith)
 
 pub open-items : (m n : ℕ) (start : List ℕ) (x : Reply) → x ≡ openAuction m n start → x .number ≡ 0 → x .next .items ≤ 32

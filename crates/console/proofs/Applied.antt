@@ -10,7 +10,7 @@ use Rattle.digits.specs.Digits.{digit, hex}
 use Rattle.digits.specs.Reading.{digitValue, digitAt, numberAt}
 use Rattle.lines.specs.Lines.{newline, joined, numberText, numberLine, pricesLine}
 use Rattle.lines.specs.Reading.{numbersAt}
-use Rattle.live.specs.Calls.{openAboveNumber, zeros, opened, unopened, openAbove, openNumber, openAuction}
+use Rattle.live.specs.Calls.{openAboveNumber, zeros, opened, unopened, openedBy, openAbove, openNumber, openAuction}
 use Rattle.live.specs.declared.Auction.{Auction}
 use Rattle.console.specs.Orders.{starts, alone, amountsAt, opening, reporting, orderOf, amountsOf, startsOf, floorsOf}
 use Rattle.console.specs.Answers.{pricesText, opens, toldBy, told}
@@ -18,7 +18,7 @@ use Rattle.console.specs.declared.Order.the-variants.{Open, OpenAbove, U
 
 -- the definitions that the cases compute with
 computing : Unit {0}
-unfolding anyBelow tabulate places first badItems badBidders badLength anyOver anyUnder badFloors digit hex digitValue digitAt numberAt newline joined numberText numberLine pricesLine numbersAt openAboveNumber zeros opened unopened openAbove openNumber openAuction starts alone amountsAt opening reporting orderOf amountsOf startsOf floorsOf pricesText opens toldBy told
+unfolding anyBelow tabulate places first badItems badBidders badLength anyOver anyUnder badFloors digit hex digitValue digitAt numberAt newline joined numberText numberLine pricesLine numbersAt openAboveNumber zeros opened unopened openedBy openAbove openNumber openAuction starts alone amountsAt opening reporting orderOf amountsOf startsOf floorsOf pricesText opens toldBy told
 computing = tt
 
 -- a line of this letter: 2 items, 1 bidder and these amounts

@@ -21,14 +21,14 @@ use Rattle.rule.specs.Refusal.{first, badItems, badBidders, badLength, anyOver,
 use Rattle.round.specs.Reports.{reports}
 use Rattle.reports.specs.Report.{isEmpty, beyond, unfit}
 use Rattle.live.specs.Auction.{place, hasReported, missing, reportsOf, itemsAbove, risingSet, fallingSet, countsFit, pricesFit, unusedPrices, floorsFit, fromFloors, unusedFloors, unusedPlaces, unusedBits, reportedFit, othersEmpty, roundsFit, closeFits, wellFormed}
-use Rattle.live.specs.Calls.{openAboveNumber, zeros, opened, unopened, openAbove}
+use Rattle.live.specs.Calls.{openAboveNumber, zeros, opened, unopened, openedBy, openAbove}
 use Rattle.live.specs.declared.Auction.{Auction}
 use Rattle.live.specs.declared.Phase.{Phase}
 use Rattle.live.specs.declared.Phase.the-variants.{Rising, Falling, Closed}
 
 -- the definitions that the cases compute with
 computing : Unit {0}
-unfolding amount wants nth bidders crowded inExcess inPositiveExcess excessDemand positiveExcessDemand excessSupply aboveFloors allBelow anyBelow count bit isSet has setOf each any size largestBelow largest sum priceSum first badItems badBidders badLength anyOver anyUnder badFloors tabulate places reports place hasReported missing isEmpty beyond unfit reportsOf itemsAbove risingSet fallingSet countsFit pricesFit unusedPrices floorsFit fromFloors unusedFloors unusedPlaces unusedBits reportedFit othersEmpty roundsFit closeFits wellFormed openAboveNumber zeros opened unopened openAbove
+unfolding amount wants nth bidders crowded inExcess inPositiveExcess excessDemand positiveExcessDemand excessSupply aboveFloors allBelow anyBelow count bit isSet has setOf each any size largestBelow largest sum priceSum first badItems badBidders badLength anyOver anyUnder badFloors tabulate places reports place hasReported missing isEmpty beyond unfit reportsOf itemsAbove risingSet fallingSet countsFit pricesFit unusedPrices floorsFit fromFloors unusedFloors unusedPlaces unusedBits reportedFit othersEmpty roundsFit closeFits wellFormed openAboveNumber zeros opened unopened openedBy openAbove
 computing = tt
 
 -- number 11 lets the first record pass, and turns the second down

@@ -2,14 +2,14 @@
 use mathlib.Core.Path.{_≡_, ap, ap₂, sym, _∙_}
 use mathlib.Core.Bool.{Bool, true, false}
 use mathlib.Core.List.{List, [], _∷_}
-use Prim.Native.Nat.{ℕ, zero, suc}
+use Prim.Native.Nat.{ℕ, suc}
 use lib.ListN.{length, replicate, length-replicate}
 use Rattle.sets.specs.Lists.{places}
 use Rattle.rule.specs.Sheet.{amount}
 use Rattle.rule.specs.Refusal.{on, first, badItems, badBidders, badLength, anyOver, anyUnder, badFloors}
 use Rattle.rule.proofs.Refusal.{passed, given, first-nil, exact, inexact, floors-test, floors-none}
 use Rattle.live.specs.declared.Phase.the-variants.{Rising}
-use Rattle.live.specs.Calls.{openNumber, openAboveNumber, opened, unopened, openAuction, openAbove}
+use Rattle.live.specs.Calls.{openNumber, openAboveNumber, opened, unopened, openedBy, openAuction, openAbove}
 use Rattle.live.specs.declared.Reply.{Reply}
 use Rattle.live.proofs.Formed.{not-over}
 
@@ -18,7 +18,7 @@ use Rattle.live.proofs.Formed.{not-over}
 module _ (m n : ℕ) (start floors : List ℕ) where
   -- the answer by its number
   abbrev answer : ℕ → Reply
-  answer x = elim x [ zero ↦ record { number = 0; next = opened m n start floors } | suc j ↦ unopened (suc j) ]
+  answer x = openedBy x m n start floors
 
   -- the answer of an opening that is not turned down, by the prices and floors in its record
   abbrev pub made : List ℕ → List ℕ → Reply
@@ -29,8 +29,12 @@ module _ (m n : ℕ) (start floors : List ℕ) where
       }
 
   pub by-number : (x : ℕ) → openAboveNumber m n start floors ≡ suc x → openAbove m n start floors ≡ unopened (suc x)
-  unfolding openAbove
+  unfolding openAbove openedBy
   by-number x e = ap answer e
+
+  pub by-none : openAboveNumber m n start floors ≡ 0 → openAbove m n start floors ≡ record { number = 0; next = opened m n start floors }
+  unfolding openAbove openedBy
+  by-none e = ap answer e
 
   pub one : badItems m ≡ true → openAbove m n start floors ≡ unopened 1
   unfolding openAboveNumber
@@ -79,8 +83,7 @@ module _ (m n : ℕ) (start floors : List ℕ) where
               no-number = past-four ∙ passed 18 (anyUnder start floors) [] u ∙ first-nil
 
               pub accepts : openAbove m n start floors ≡ record { number = 0; next = opened m n start floors }
-              unfolding openAbove
-              accepts = ap answer no-number
+              accepts = by-none no-number
 
               -- the record as the code makes it
               pub accepts-with : (p l : List ℕ) → p ≡ places 32 start → l ≡ places 32 floors → made p l ≡ openAbove m n start floors

@@ -92,13 +92,17 @@ opened m n start floors =
 unfoldable pub unopened : ℕ → Reply
 unopened x = record { number = x; next = zeros }
 
+-- the answer to an opening, by its number
+unfoldable pub openedBy : (number items bidders : ℕ) (start floors : List ℕ) → Reply
+openedBy zero m n start floors = record { number = 0; next = opened m n start floors }
+openedBy (suc j) m n start floors = unopened (suc j)
+
 -- without floors they are 0
 unfoldable pub openAuction : (items bidders : ℕ) (start : List ℕ) → Reply
-openAuction m n start = elim (openNumber m n start) [ zero ↦ record { number = 0; next = opened m n start (replicate m 0) } | suc j ↦ unopened (suc j) ]
+openAuction m n start = openedBy (openNumber m n start) m n start (replicate m 0)
 
 unfoldable pub openAbove : (items bidders : ℕ) (start floors : List ℕ) → Reply
-openAbove m n start floors =
-    elim (openAboveNumber m n start floors) [ zero ↦ record { number = 0; next = opened m n start floors } | suc j ↦ unopened (suc j) ]
+openAbove m n start floors = openedBy (openAboveNumber m n start floors) m n start floors
 
 -- ---- report: 11, 12, 7, 13, 8
 
