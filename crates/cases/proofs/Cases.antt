@@ -18,8 +18,10 @@ use Rattle.rule.specs.Demand.{surplusAtLeast, best, demand, demands, wants, nth
 use Rattle.rule.specs.Excess.{bidders, crowded, inExcess, inPositiveExcess, excessDemand, positiveExcessDemand, excessSupply, aboveFloors}
 use Rattle.rule.specs.Round.{raise, lower, Round, raised, lowered, closed, State, roundFalling, round, move, roundAt, after, opening, path}
 use Rattle.rule.specs.Assignment.{option, holders, isAssignment, fits, someList, choose, assignment, total, floorTotal}
-use Rattle.cases.specs.Cases.{Given, sheetAbove, demanded, Finding, rising, isS~, falling, closing, Closes, Found, Row, Each, Holds, table}
+use Rattle.rule.specs.Round.{falling as falling-phase}
 use Rattle.rule.specs.Closing.{phaseAfter, assignmentAt}
+use Rattle.rule.specs.FallingFirst.{roundRising, fallingRound, fallingRoundAt, fallingPath, risingAfter}
+use Rattle.cases.specs.Cases.{Given, sheetAbove, demanded, Finding, rising, isS~, falling, closing, fallingFirst, Closes, FallingCloses, Found, Row, Each, Holds, table}
 
 -- ---- a path that counts as many rounds as it took has not closed before
 
@@ -36,25 +38,23 @@ move-closed : (m : ℕ) (s : State) (r : Round) → r ≡ closed → move m s r 
 unfolding move
 move-closed m s r e = rw e
 
-module _ (m : ℕ) (floors : List ℕ) (bids : List (List ℕ)) (s : State) where
-  rounds-le : (k : ℕ) → rounds (after m floors bids s k) ≤ rounds s + k
-  unfolding after
+-- the states of a path, one round after the other by some rule
+module _ (m : ℕ) (rule : State → Round) (at : ℕ → State) (step : (k : ℕ) → at (suc k) ≡ move m (at k) (rule (at k))) where
+  step-le : (k : ℕ) → rounds (at (suc k)) ≤ rounds (at k) + 1
+  step-le k = omega (arith, ap rounds (step k), move-le m (at k) (rule (at k)))
+
+  rounds-le : (k : ℕ) → rounds (at k) ≤ rounds (at 0) + k
   rounds-le zero = omega arith
-  rounds-le (suc k) = omega (arith, rounds-le k, move-le m (after m floors bids s k) (roundAt m floors bids (after m floors bids s k)))
+  rounds-le (suc k) = omega (arith, rounds-le k, step-le k)
 
-  pub not-before : (k : ℕ) → rounds (after m floors bids s k) ≡ rounds s + k → (j : ℕ) → j < k → roundAt m floors bids (after m floors bids s j) ≡ closed → ⊥
-  unfolding after
+  not-before : (k : ℕ) → rounds (at k) ≡ rounds (at 0) + k → (j : ℕ) → j < k → rule (at j) ≡ closed → ⊥
   not-before zero e j l q = not-suc-le-zero l
-  not-before (suc k) e j l q = go (below-suc l) (not-before k (omega (arith, rounds-le k, step, e)))
+  not-before (suc k) e j l q = go (below-suc l) (not-before k (omega (arith, rounds-le k, step-le k, e)))
     where
-      step : rounds (move m (after m floors bids s k) (roundAt m floors bids (after m floors bids s k))) ≤ rounds (after m floors bids s k) + 1
-      step = move-le m (after m floors bids s k) (roundAt m floors bids (after m floors bids s k))
-
-      go : (j ≡ k) ⊎ (j < k) → ((j : ℕ) → j < k → roundAt m floors bids (after m floors bids s j) ≡ closed → ⊥) → ⊥
+      go : (j ≡ k) ⊎ (j < k) → ((j : ℕ) → j < k → rule (at j) ≡ closed → ⊥) → ⊥
       go (inr lt) ih = ih j lt q
       go (inl p) ih =
-          let at : roundAt m floors bids (after m floors bids s k) ≡ closed = ap (λ (x : ℕ). roundAt m floors bids (after m floors bids s x)) (sym p) ∙ q in
-          let stay = ap rounds (move-closed m (after m floors bids s k) (roundAt m floors bids (after m floors bids s k)) at) in
+          let stay = ap rounds (step k ∙ move-closed m (at k) (rule (at k)) (ap (λ (x : ℕ). rule (at x)) (sym p) ∙ q)) in
           omega (arith, rounds-le k, stay, e)
 
 -- ---- what is computed of a row: of a close the path's last state
@@ -67,14 +67,37 @@ record Last (s : Sheet) (bidders ups downs : ℕ) (prices options : List ℕ) : 
   assigned : assignmentAt s prices ≡ options
 
 from-last : (s : Sheet) (bidders ups downs : ℕ) (prices options : List ℕ) → Last s bidders ups downs prices options → Closes s bidders ups downs prices options
-unfolding opening path
+unfolding opening path after
 from-last s bidders ups downs prices options l =
     record {
       limits = l .limits;
       counted = l .counted;
       at-close = l .at-close;
       closes = ap (roundAt (s .items) (s .floors) (s .bids)) (l .at-close) ∙ l .closes;
-      not-before = not-before (s .items) (s .floors) (s .bids) (opening (s .start)) (ups + downs) (ap rounds (l .at-close) ∙ omega arith);
+      not-before = not-before (s .items) (roundAt (s .items) (s .floors) (s .bids)) (path s) (λ k. refl) (ups + downs) (ap rounds (l .at-close) ∙ omega arith);
+      assigned = l .assigned;
+    }
+
+-- and falling first its state at the turn as well
+record LastFalling (s : Sheet) (bidders downs : ℕ) (turn : List ℕ) (ups : ℕ) (prices options : List ℕ) : Type 0 where
+  limits : withinLimits s ≡ true
+  counted : length (s .bids) ≡ bidders
+  at-turn : fallingPath s downs ≡ record { phase = falling-phase; prices = turn; ups = 0; downs = downs }
+  at-close : fallingPath s (downs + ups) ≡ record { phase = risingAfter ups; prices = prices; ups = ups; downs = downs }
+  closes : fallingRoundAt s (record { phase = risingAfter ups; prices = prices; ups = ups; downs = downs }) ≡ closed
+  assigned : assignmentAt s prices ≡ options
+
+from-last-falling : (s : Sheet) (bidders downs : ℕ) (turn : List ℕ) (ups : ℕ) (prices options : List ℕ) → LastFalling s bidders downs turn ups prices options
+    → FallingCloses s bidders downs turn ups prices options
+unfolding fallingPath
+from-last-falling s bidders downs turn ups prices options l =
+    record {
+      limits = l .limits;
+      counted = l .counted;
+      at-turn = l .at-turn;
+      at-close = l .at-close;
+      closes = ap (fallingRoundAt s) (l .at-close) ∙ l .closes;
+      not-before = not-before (s .items) (fallingRoundAt s) (fallingPath s) (λ k. refl) (downs + ups) (ap rounds (l .at-close) ∙ omega arith);
       assigned = l .assigned;
     }
 
@@ -85,6 +108,9 @@ Computed g (falling is) = Found g (falling is)
 Computed (sheetAbove m n start floors bs) (closing ups downs prices options) =
     Last (record { items = m; start = start; floors = floors; bids = bs }) n ups downs prices options
 Computed (demanded m above ds) (closing ups downs prices options) = ⊥
+Computed (sheetAbove m n start floors bs) (fallingFirst downs turn ups prices options) =
+    LastFalling (record { items = m; start = start; floors = floors; bids = bs }) n downs turn ups prices options
+Computed (demanded m above ds) (fallingFirst downs turn ups prices options) = ⊥
 
 found : (g : Given) (f : Finding) → Computed g f → Found g f
 found g (rising is) c = c
@@ -93,6 +119,9 @@ found g (falling is) c = c
 found (sheetAbove m n start floors bs) (closing ups downs prices options) c =
     from-last (record { items = m; start = start; floors = floors; bids = bs }) n ups downs prices options c
 found (demanded m above ds) (closing ups downs prices options) c = c
+found (sheetAbove m n start floors bs) (fallingFirst downs turn ups prices options) c =
+    from-last-falling (record { items = m; start = start; floors = floors; bids = bs }) n downs turn ups prices options c
+found (demanded m above ds) (fallingFirst downs turn ups prices options) c = c
 
 each-map : {A : Type 0} (P Q : A → Type 0) → ((a : A) → P a → Q a) → (xs : List A) → Each P xs → Each Q xs
 each-map P Q f [] e = tt
@@ -102,10 +131,10 @@ abbrev ComputedRow : Row → Type 0
 ComputedRow r = Each (Computed (r .given)) (r .finds)
 
 computed : Each ComputedRow table
-unfolding withinLimits each4095 path allBelow anyBelow count sum bit isSet has setOf each any size amount row surplusAtLeast best demand demands wants nth bidders crowded inExcess inPositiveExcess largestBelow largest excessDemand positiveExcessDemand excessSupply aboveFloors tabulate raise lower roundFalling round move roundAt after opening option holders isAssignment fits someList lowest choose assignment
+unfolding withinLimits each4095 path allBelow anyBelow count sum bit isSet has setOf each any size amount row surplusAtLeast best demand demands wants nth bidders crowded inExcess inPositiveExcess largestBelow largest excessDemand positiveExcessDemand excessSupply aboveFloors tabulate raise lower roundFalling round move roundAt after opening roundRising fallingRound fallingRoundAt fallingPath option holders isAssignment fits someList lowest choose assignment
 computed = (
   -- K1
-  (record { limits = refl; counted = refl; at-close = refl; closes = refl; assigned = refl }, tt),
+  (record { limits = refl; counted = refl; at-close = refl; closes = refl; assigned = refl }, (record { limits = refl; counted = refl; at-turn = refl; at-close = refl; closes = refl; assigned = refl }, tt)),
   -- K2
   (
     (refl, (refl, (refl, tt))),
@@ -114,7 +143,7 @@ computed = (
       (refl, (refl, tt)),
       -- K4
       (
-        (refl, (record { limits = refl; counted = refl; at-close = refl; closes = refl; assigned = refl }, tt)),
+        (refl, (record { limits = refl; counted = refl; at-close = refl; closes = refl; assigned = refl }, (record { limits = refl; counted = refl; at-turn = refl; at-close = refl; closes = refl; assigned = refl }, tt))),
         -- K5
         (
           (record { limits = refl; counted = refl; at-close = refl; closes = refl; assigned = refl }, tt),
@@ -129,7 +158,7 @@ computed = (
                 (record { limits = refl; counted = refl; at-close = refl; closes = refl; assigned = refl }, tt),
                 -- K9
                 (
-                  (record { limits = refl; counted = refl; at-close = refl; closes = refl; assigned = refl }, tt),
+                  (record { limits = refl; counted = refl; at-close = refl; closes = refl; assigned = refl }, (record { limits = refl; counted = refl; at-turn = refl; at-close = refl; closes = refl; assigned = refl }, tt)),
                   -- with floors
                   (
                     (record { limits = refl; counted = refl; at-close = refl; closes = refl; assigned = refl }, tt),
@@ -137,7 +166,7 @@ computed = (
                       (refl, (record { limits = refl; counted = refl; at-close = refl; closes = refl; assigned = refl }, tt)),
                       (
                         (refl, (record { limits = refl; counted = refl; at-close = refl; closes = refl; assigned = refl }, tt)),
-                        ((record { limits = refl; counted = refl; at-close = refl; closes = refl; assigned = refl }, tt), tt),
+                        ((record { limits = refl; counted = refl; at-close = refl; closes = refl; assigned = refl }, (record { limits = refl; counted = refl; at-turn = refl; at-close = refl; closes = refl; assigned = refl }, tt)), tt),
                       ),
                     ),
                   ),

@@ -1,5 +1,5 @@
 -- Document 01, "Lettings to try": K1 to K9, row by row as they stand there, but K5 and K7, which name no pan since document 02, #102; their floors are 0. After
--- them rows of our own with floors (#103). One table with one statement. Items are its pans, bidders its rakers, prices its rents, options its names. Assumes
+-- them rows of our own with floors (#103); falling first (#104) of those where it differs. One table with one statement. Items are its pans, bidders its rakers, prices its rents, options its names. Assumes
 -- nothing: these are definitions.
 use Prim.Native.Nat.{ℕ, _+_, _-_, _^_, _<_}
 use mathlib.Core.Bool.{true, false}
@@ -10,7 +10,9 @@ use Rattle.rule.specs.Sheet.{Sheet, withinLimits}
 use Rattle.rule.specs.Demand.{Demand, demands}
 use Rattle.rule.specs.Excess.{excessDemand, positiveExcessDemand, excessSupply, aboveFloors}
 use Rattle.rule.specs.Round.{closed, path}
+use Rattle.rule.specs.Round.{falling as falling-phase}
 use Rattle.rule.specs.Closing.{roundOf, assignmentAt, phaseAfter}
+use Rattle.rule.specs.FallingFirst.{fallingPath, fallingRoundOf, risingAfter}
 
 -- the set of the items of a list
 abbrev pub set : List ℕ → ℕ
@@ -26,10 +28,12 @@ pub data Given : Type 0 where
 abbrev sheet : (items bidders : ℕ) (start : List ℕ) (bids : List (List ℕ)) → Given
 sheet m n start bs = sheetAbove m n start (replicate m 0) bs
 
--- what a row finds: the rising set, S~ or the falling set at the given prices; the close, with rounds raised, rounds lowered, prices and options
+-- what a row finds: the rising set, S~ or the falling set at the given prices; the close, with rounds raised, rounds lowered, prices and options; and falling first
+-- the rounds lowered, the turn, the rounds raised, prices and options
 pub data Finding : Type 0 where
   rising isS~ falling : List ℕ → Finding
   closing : (raised lowered : ℕ) (prices options : List ℕ) → Finding
+  fallingFirst : (lowered : ℕ) (turn : List ℕ) (raised : ℕ) (prices options : List ℕ) → Finding
 
 abbrev itemsOf : Given → ℕ
 itemsOf (sheetAbove m n start floors bs) = m
@@ -56,6 +60,16 @@ pub record Closes (s : Sheet) (bidders ups downs : ℕ) (prices options : List �
   pub not-before : (k : ℕ) → k < ups + downs → roundOf s k ≡ closed → ⊥
   pub assigned : assignmentAt s prices ≡ options
 
+-- falling first it comes to the turn after so many rounds lowered, and closes after so many raised, and not before
+pub record FallingCloses (s : Sheet) (bidders downs : ℕ) (turn : List ℕ) (ups : ℕ) (prices options : List ℕ) : Type 0 where
+  pub limits : withinLimits s ≡ true
+  pub counted : length (s .bids) ≡ bidders
+  pub at-turn : fallingPath s downs ≡ record { phase = falling-phase; prices = turn; ups = 0; downs = downs }
+  pub at-close : fallingPath s (downs + ups) ≡ record { phase = risingAfter ups; prices = prices; ups = ups; downs = downs }
+  pub closes : fallingRoundOf s (downs + ups) ≡ closed
+  pub not-before : (k : ℕ) → k < downs + ups → fallingRoundOf s k ≡ closed → ⊥
+  pub assigned : assignmentAt s prices ≡ options
+
 abbrev pub Found : Given → Finding → Type 0
 Found g (rising is) = excessDemand (itemsOf g) (demandsOf g) ≡ set is
 Found g (isS~ is) = positiveExcessDemand (itemsOf g) (aboveOf g) (demandsOf g) ≡ set is
@@ -63,6 +77,9 @@ Found g (falling is) = excessSupply (itemsOf g) (aboveOf g) (demandsOf g) ≡ se
 Found (sheetAbove m n start floors bs) (closing ups downs prices options) =
     Closes (record { items = m; start = start; floors = floors; bids = bs }) n ups downs prices options
 Found (demanded m above ds) (closing ups downs prices options) = ⊥
+Found (sheetAbove m n start floors bs) (fallingFirst downs turn ups prices options) =
+    FallingCloses (record { items = m; start = start; floors = floors; bids = bs }) n downs turn ups prices options
+Found (demanded m above ds) (fallingFirst downs turn ups prices options) = ⊥
 
 pub record Row : Type 0 where
   pub given : Given
@@ -83,7 +100,7 @@ example6 = (2 ∷ 6 ∷ []) ∷ (3 ∷ 7 ∷ []) ∷ (6 ∷ 7 ∷ []) ∷ []
 abbrev pub table : List Row
 table =
     -- K1
-    record { given = sheet 2 3 (4 ∷ 4 ∷ []) example6; finds = closing 2 2 (2 ∷ 6 ∷ []) (0 ∷ 2 ∷ 1 ∷ []) ∷ [] }
+    record { given = sheet 2 3 (4 ∷ 4 ∷ []) example6; finds = closing 2 2 (2 ∷ 6 ∷ []) (0 ∷ 2 ∷ 1 ∷ []) ∷ fallingFirst 4 (0 ∷ 4 ∷ []) 2 (2 ∷ 6 ∷ []) (0 ∷ 2 ∷ 1 ∷ []) ∷ [] }
     -- K2
     ∷ record {
       given = demanded 4 (1 ∷ 4 ∷ []) ((1 ∷ []) ∷ (1 ∷ []) ∷ (1 ∷ []) ∷ (2 ∷ []) ∷ (2 ∷ []) ∷ (4 ∷ []) ∷ []);
@@ -94,7 +111,7 @@ table =
     -- K4
     ∷ record {
       given = sheet 2 2 (3 ∷ 3 ∷ []) ((5 ∷ 5 ∷ []) ∷ (5 ∷ 5 ∷ []) ∷ []);
-      finds = falling (1 ∷ 2 ∷ []) ∷ closing 0 3 (0 ∷ 0 ∷ []) (1 ∷ 2 ∷ []) ∷ [];
+      finds = falling (1 ∷ 2 ∷ []) ∷ closing 0 3 (0 ∷ 0 ∷ []) (1 ∷ 2 ∷ []) ∷ fallingFirst 3 (0 ∷ 0 ∷ []) 0 (0 ∷ 0 ∷ []) (1 ∷ 2 ∷ []) ∷ [];
     }
     -- K5
     ∷ record { given = sheet 1 1 (0 ∷ []) ((0 ∷ []) ∷ []); finds = closing 0 0 (0 ∷ []) (0 ∷ []) ∷ [] }
@@ -110,7 +127,7 @@ table =
     -- K9
     ∷ record {
       given = sheet 2 3 (5 ∷ 5 ∷ []) ((9 ∷ 2 ∷ []) ∷ (9 ∷ 2 ∷ []) ∷ (9 ∷ 2 ∷ []) ∷ []);
-      finds = closing 4 3 (9 ∷ 2 ∷ []) (1 ∷ 2 ∷ 0 ∷ []) ∷ [];
+      finds = closing 4 3 (9 ∷ 2 ∷ []) (1 ∷ 2 ∷ 0 ∷ []) ∷ fallingFirst 5 (5 ∷ 0 ∷ []) 4 (9 ∷ 2 ∷ []) (1 ∷ 2 ∷ 0 ∷ []) ∷ [];
     }
     -- a floor that nobody meets: the item stays unlet at its floor
     ∷ record { given = sheetAbove 1 1 (7 ∷ []) (5 ∷ []) ((3 ∷ []) ∷ []); finds = closing 0 2 (5 ∷ []) (0 ∷ []) ∷ [] }
@@ -120,6 +137,6 @@ table =
     -- K9 with a floor for item 2 above all bids for it
     ∷ record {
       given = sheetAbove 2 3 (5 ∷ 5 ∷ []) (0 ∷ 3 ∷ []) ((9 ∷ 2 ∷ []) ∷ (9 ∷ 2 ∷ []) ∷ (9 ∷ 2 ∷ []) ∷ []);
-      finds = closing 4 2 (9 ∷ 3 ∷ []) (1 ∷ 0 ∷ 0 ∷ []) ∷ [];
+      finds = closing 4 2 (9 ∷ 3 ∷ []) (1 ∷ 0 ∷ 0 ∷ []) ∷ fallingFirst 2 (5 ∷ 3 ∷ []) 4 (9 ∷ 3 ∷ []) (1 ∷ 0 ∷ 0 ∷ []) ∷ [];
     }
     ∷ []

@@ -1,6 +1,6 @@
 -- The definitions applied to the smallest cases that tell a wrong one from them, by computation; the whole of document 01's table is in `cases`. The checker takes
 -- modules by name, and this one comes first: the first error that a wrong definition meets stands here. Assumes nothing.
-use Prim.Native.Nat.{ℕ, zero, suc, _+_}
+use Prim.Native.Nat.{ℕ, zero, suc, _+_, _-_}
 use mathlib.Core.Path.{_≡_, refl}
 use mathlib.Core.Bool.{Bool, true, false, cond}
 use mathlib.Core.List.{List, [], _∷_}
@@ -13,17 +13,19 @@ use Rattle.sets.specs.Sum.{sum}
 use Rattle.rule.specs.Sheet.{amount, row, each4095, Sheet, withinLimits}
 use Rattle.rule.specs.Demand.{surplusAtLeast, best, Demand, demand, demands, wants, nth}
 use Rattle.rule.specs.Excess.{bidders, overdemanded, weaklyUnderdemanded, crowded, inExcess, inPositiveExcess, excessDemand, positiveExcessDemand, excessSupply, aboveFloors}
-use Rattle.rule.specs.Round.{raise, lower, raised, lowered, closed, roundFalling, round, move, roundAt, after, opening, path, mostRounds}
+use Rattle.rule.specs.Round.{raise, lower, Phase, rising, falling, raised, lowered, closed, State, roundFalling, round, move, roundAt, after, opening, path, mostRounds}
 use Rattle.rule.specs.Assignment.{option, holders, isAssignment, fits, Ahead, over-null, floorTotal}
 use Rattle.rule.specs.Equilibrium.{Below, Equilibrium, greatest}
 use Rattle.rule.specs.Closing.{excessDemandAt, excessSupplyAt, FitsAt, roundOf, largestRise}
+use Rattle.rule.specs.FallingFirst.{roundRising, fallingRound, fallingRoundAt, fallingPath, fallingRoundOf}
+use Rattle.rule.specs.Reduced.{surplus, reducedLine}
 use Rattle.rule.specs.Reasons.{biddersWith, reasonOf, reasonAt, Justified}
 use Rattle.rule.specs.Refusal.{anyOver, anyUnder, badFloors}
 use Rattle.rule.specs.Former.{formerDemand, formerDemands, formerRoundAt, formerAfter, formerPath, FormerEquilibrium}
 
 -- the definitions that the cases compute with
 computing : Unit {0}
-unfolding allBelow anyBelow count bit isSet has setOf each any size largestBelow largest tabulate amount row each4095 withinLimits surplusAtLeast best demand demands wants nth bidders overdemanded weaklyUnderdemanded crowded inExcess inPositiveExcess excessDemand positiveExcessDemand excessSupply aboveFloors raise lower roundFalling round move roundAt after opening path mostRounds option holders isAssignment fits greatest biddersWith reasonOf reasonAt formerDemand formerDemands formerRoundAt formerAfter formerPath sum floorTotal anyOver anyUnder badFloors
+unfolding allBelow anyBelow count bit isSet has setOf each any size largestBelow largest tabulate amount row each4095 withinLimits surplusAtLeast best demand demands wants nth bidders overdemanded weaklyUnderdemanded crowded inExcess inPositiveExcess excessDemand positiveExcessDemand excessSupply aboveFloors raise lower roundFalling round move roundAt after opening path mostRounds option holders isAssignment fits greatest biddersWith reasonOf reasonAt formerDemand formerDemands formerRoundAt formerAfter formerPath sum floorTotal anyOver anyUnder badFloors roundRising fallingRound fallingRoundAt fallingPath surplus reducedLine
 computing = tt
 
 -- a demand of these items alone, and one of null beside them
@@ -248,6 +250,49 @@ two-for-two = record { raised-more = λ e. absurd (omega (arith, e)); lowered-no
 pub too-high : (badFloors (4096 ∷ []) (4096 ∷ []) ≡ true) × (badFloors (1 ∷ []) (2 ∷ []) ≡ true) × (badFloors (2 ∷ []) (2 ∷ []) ≡ false)
 unfolding computing
 too-high = (refl, refl, refl)
+
+-- ---- falling first
+
+-- example 6 from (4, 4): the falling set is {1} and the rising set {2}
+abbrev six : Sheet
+six = record { items = 2; start = 4 ∷ 4 ∷ []; floors = 0 ∷ 0 ∷ []; bids = (2 ∷ 6 ∷ []) ∷ (3 ∷ 7 ∷ []) ∷ (6 ∷ 7 ∷ []) ∷ [] }
+
+abbrev at : Phase → List ℕ → State
+at ph p = record { phase = ph; prices = p; ups = 0; downs = 0 }
+
+pub falls-first : (fallingPath six 0 ≡ at falling (4 ∷ 4 ∷ [])) × (fallingRoundOf six 0 ≡ lowered 1)
+unfolding computing
+falls-first = (refl, refl)
+
+-- at (0, 4) the falling set is empty, though item 2 is above its floor, and the rising set is not: there is the turn, and no close
+pub then-rises : fallingRoundAt six (at falling (0 ∷ 4 ∷ [])) ≡ raised 3
+unfolding computing
+then-rises = refl
+
+-- at (2, 6) both are empty
+pub closes-there : (fallingRoundAt six (at falling (2 ∷ 6 ∷ [])) ≡ closed) × (fallingRoundAt six (at rising (2 ∷ 6 ∷ [])) ≡ closed)
+unfolding computing
+closes-there = (refl, refl)
+
+-- once it rises it does not fall again
+pub no-fall-after : fallingRoundAt six (at rising (4 ∷ 4 ∷ [])) ≡ raised 2
+unfolding computing
+no-fall-after = refl
+
+-- the largest fall from (4, 4) is 4 to the turn at (0, 4), and only 2 to the close at (2, 6)
+pub to-the-turn : (greatest 2 (λ i. amount (4 ∷ 4 ∷ []) i - amount (0 ∷ 4 ∷ []) i) ≡ 4) × (greatest 2 (λ i. amount (4 ∷ 4 ∷ []) i - amount (2 ∷ 6 ∷ []) i) ≡ 2)
+unfolding computing
+to-the-turn = (refl, refl)
+
+-- at the close the falling set is empty too, and it is above the turn: among all prices the turn is not the greatest, only from the start down
+pub full-above : excessSupplyAt six (2 ∷ 6 ∷ []) ≡ 0
+unfolding computing
+full-above = refl
+
+-- bidder 3 has a surplus of 3 at (4, 4), bidder 1 one of 2; at (9, 9) nobody has any
+pub reduced-line : (reducedLine 2 (4 ∷ 4 ∷ []) (6 ∷ 7 ∷ []) ≡ 3 ∷ 4 ∷ []) × (reducedLine 2 (4 ∷ 4 ∷ []) (2 ∷ 6 ∷ []) ≡ 0 ∷ 4 ∷ []) × (reducedLine 2 (9 ∷ 9 ∷ []) (6 ∷ 7 ∷ []) ≡ 6 ∷ 7 ∷ [])
+unfolding computing
+reduced-line = (refl, refl, refl)
 
 -- ---- without #102
 

@@ -28,6 +28,10 @@ pub mod Balance
 pub mod SameBalance
 pub mod Path
 pub mod Closing
+pub mod Reduced
+pub mod Full
+pub mod FallingPath
+pub mod FallingClosing
 pub mod Reasons
 pub mod Unchanged
 pub mod Refusal

@@ -6,6 +6,7 @@ use mathlib.Core.Path.{_≡_, sym, ap, _∙_, subst}
 use mathlib.Core.Bool.{Bool}
 use mathlib.Core.List.{List}
 use native.Mathlib.Omega.{arith}
+use native.Mathlib.Decide.{ℕ-discrete}
 use lib.ListN.{length, length-map}
 use lib.Pow.{pow-pos}
 use borrow.Author.Tests.{ltb-true, leb-true}
@@ -15,13 +16,15 @@ use Rattle.sets.proofs.Members.{isSet-setOf, setOf-cong, setOf-lt}
 use Rattle.rule.specs.Sheet.{Sheet}
 use Rattle.rule.specs.Demand.{Demand, demands, nth}
 use Rattle.rule.specs.Excess.{bidders, nonEmptyPart, somethingIn, nothingOutside, overdemanded, weaklyUnderdemanded, excessDemand, excessSupply, aboveFloors}
-use Rattle.rule.specs.Round.{Phase, Round, raised, lowered, closed, round, State, roundAt, path}
+use Rattle.rule.specs.Round.{Phase, rising, falling, Round, raised, lowered, closed, round, State, roundAt, path}
 use Rattle.rule.specs.Closing.{demandsAt, excessDemandAt, excessSupplyAt, Closing}
+use Rattle.rule.specs.FallingFirst.{roundRising, fallingRound, fallingRoundAt, fallingPath, fallingRoundOf}
 use Rattle.rule.specs.Reasons.{biddersWith, Reason, reasonOf, reasonAt, roundCount, Justified}
 use Rattle.rule.proofs.Largest.{demand-bound, supply-bound}
 use Rattle.rule.proofs.EmptySets.{rising-over, falling-under}
 use Rattle.rule.proofs.Moves.{some-item}
 use Rattle.rule.proofs.Path.{Does, raises, lowers, closes, does}
+use Rattle.rule.proofs.FallingPath.{falling-lowered, falling-turned, rising-raised, rising-closed}
 
 -- as many bidders are in the set as have a demand that passes
 pub size-with : (ds : List Demand) (f : Demand → Bool) → size (length ds) (biddersWith ds f) ≡ bidders ds f
@@ -90,6 +93,24 @@ module _ (m above : ℕ) (ds : List Demand) where
   pub justified : (ph : Phase) → Justified m (length ds) (reasonOf m ds (round m above ds ph))
   justified = of-each (λ x. Justified m (length ds) (reasonOf m ds x)) raised-justified lowered-justified none-justified
 
+  -- falling first too
+  falling-each : (P : Round → Type 0) → ((excessDemand m ds ≡ 0 → ⊥) → P (raised (excessDemand m ds)))
+      → ((excessSupply m above ds ≡ 0 → ⊥) → P (lowered (excessSupply m above ds))) → P closed → (ph : Phase) → P (fallingRound m above ds ph)
+  unfolding fallingRound
+  falling-each P up down none ph = go ph (ℕ-discrete (excessSupply m above ds) 0) (ℕ-discrete (excessDemand m ds) 0)
+    where
+      rise : Dec (excessDemand m ds ≡ 0) → P (roundRising m ds)
+      rise (no ne) = subst P (sym (rising-raised m above ds ne)) (up ne)
+      rise (yes e) = subst P (sym (rising-closed m above ds e)) none
+
+      go : (ph : Phase) → Dec (excessSupply m above ds ≡ 0) → Dec (excessDemand m ds ≡ 0) → P (fallingRound m above ds ph)
+      go rising f d = rise d
+      go falling (no ne) d = subst P (sym (falling-lowered m above ds ne)) (down ne)
+      go falling (yes e) d = subst P (sym (falling-turned m above ds e falling)) (rise d)
+
+  pub falling-justified : (ph : Phase) → Justified m (length ds) (reasonOf m ds (fallingRound m above ds ph))
+  falling-justified = falling-each (λ x. Justified m (length ds) (reasonOf m ds x)) raised-justified lowered-justified none-justified
+
   -- ---- how large a reason's numbers are
 
   -- of a raised set, of a lowered set and of a close
@@ -124,6 +145,13 @@ module _ (s : Sheet) (k : ℕ) where
 
   pub path-justified : Justified (s .items) (length (s .bids)) (reasonAt s k)
   path-justified = in-path (Justified (s .items)) (justified (s .items))
+
+  pub falling-path-justified : Justified (s .items) (length (s .bids)) (reasonOf (s .items) (demandsAt s (fallingPath s k .prices)) (fallingRoundOf s k))
+  unfolding fallingRoundAt demands
+  falling-path-justified =
+      let t : State = fallingPath s k in
+      subst (λ (n : ℕ). Justified (s .items) n (reasonOf (s .items) (demandsAt s (t .prices)) (fallingRoundOf s k))) (length-map (s .bids) _)
+      (falling-justified (s .items) (aboveFloors (s .items) (s .floors) (t .prices)) (demandsAt s (t .prices)) (t .phase))
 
   pub path-small : Small (s .items) (length (s .bids)) (reasonAt s k)
   path-small = in-path (Small (s .items)) (small (s .items))

@@ -22,11 +22,11 @@ use Rattle.rule.proofs.Surplus.{wantsAt, wants-use, wants-make}
 -- ---- one bidder, at prices p with bids r
 
 module _ (m : ℕ) (p r : List ℕ) where
-  best-use : (i : ℕ) → best m p r i ≡ true → (j : ℕ) → j < suc m → amount r j + amount p i ≤ amount r i + amount p j
+  pub best-use : (i : ℕ) → best m p r i ≡ true → (j : ℕ) → j < suc m → amount r j + amount p i ≤ amount r i + amount p j
   unfolding best surplusAtLeast wantsAt
   best-use i e = wants-use m (λ b. amount r) (amount p) 0 i e
 
-  best-make : (i : ℕ) → ((j : ℕ) → j < suc m → amount r j + amount p i ≤ amount r i + amount p j) → best m p r i ≡ true
+  pub best-make : (i : ℕ) → ((j : ℕ) → j < suc m → amount r j + amount p i ≤ amount r i + amount p j) → best m p r i ≡ true
   unfolding best surplusAtLeast wantsAt
   best-make i h = wants-make m (λ b. amount r) (amount p) 0 i h
 

@@ -7,6 +7,8 @@ pub mod Assignment
 pub mod Completion
 pub mod Equilibrium
 pub mod Closing
+pub mod FallingFirst
+pub mod Reduced
 pub mod Reasons
 pub mod Former
 pub mod Refusal
