@@ -1,4 +1,6 @@
 pub mod LeastPrices
 pub mod Settling
+pub mod Reducing
+pub mod FallingRounds
 pub mod Sealing
 pub mod Naming

@@ -1,13 +1,19 @@
 // The sealed auction.
 ghost use mathlib.Core.Path.{_≡_};
-ghost use Prim.Native.Nat.{_+_, _-_, _<_};
+ghost use mathlib.Core.List.{List};
+ghost use Prim.Native.Nat.{ℕ, _+_, _-_, _≤_, _<_};
+ghost use lib.ListN.{length};
 ghost use Rattle.sets.specs.Lists.{places};
 ghost use Rattle.rule.specs.Sheet.{amount};
 ghost use Rattle.rule.specs.Round.{close};
 ghost use Rattle.rule.specs.Equilibrium.{greatest};
-ghost use Rattle.bids.specs.Lent.{sheetAbove, sheetOf};
+ghost use Rattle.rule.specs.FallingFirst.{fallingClose};
+ghost use Rattle.bids.specs.Lent.{rowsOf, sheetAbove, sheetOf};
+ghost use Rattle.bids.specs.Fit.{Fit};
 ghost use Rattle.bids.specs.Refusal.{sealedAboveRefusal};
-ghost use Rattle.auction.specs.Sealed.{refused, sealedAboveOf, sealedOf, Promised};
+ghost use Rattle.least.specs.Least.{Least};
+ghost use Rattle.auction.specs.Reduced.{ReducedTo, ReducedLines};
+ghost use Rattle.auction.specs.Sealed.{refused, namedAt, sealedAboveOf, sealedOf, fallingFirstOf, Promised, PromisedFalling};
 
 // ---- the close, without its rounds
 
@@ -50,6 +56,64 @@ fn rounds(start: &[u16], floors: &[u16], bids: &[u16], items: usize, bidders: us
     }
 }
 
+// ---- falling first, without its rounds
+
+// A bidder's bids less the surplus, in their places of the table.
+fn reduce_line(table: &mut [u16; 2048], at: usize, line: &[u16], surplus: u16)
+    requires { ⌜ (length (now table) ≡ 2048) × (at + length (now line) ≤ 2048) ⌝ }
+    ensures { λ _. ⌜ ReducedTo (now (line .entry)) surplus at (length (now (line .entry))) (now (table .entry)) (now (table .exit)) ⌝ }
+{
+    let mut i: usize = 0;
+    while i < line.len() {
+        table[at + i] = prices::over(line[i], surplus);
+        i += 1;
+    }
+}
+
+// The bids, each less the bidder's highest surplus at the prices.
+fn reduced(prices: &[u16; 32], bids: &[u16], items: usize, bidders: usize) -> [u16; 2048]
+    requires { ⌜ Fit items bidders (now bids) ⌝ }
+    ensures { λ r. ⌜ (length r ≡ 2048) × ReducedLines items (now (prices .entry)) (now (bids .entry)) bidders r ⌝ }
+{
+    let mut table = [0u16; 2048];
+    let mut b: usize = 0;
+    while b < bidders {
+        let line = bids::row(bids, items, b as u16);
+        let surplus = demands::surplus_of(prices, line);
+        reduce_line(&mut table, b * items, line, surplus);
+        b += 1;
+    }
+    table
+}
+
+// The least prices from the floors up: a sheet that starts at its floors turns where it closes.
+fn closing_prices(floors: &[u16], bids: &[u16], items: usize, bidders: usize) -> [u16; 32]
+    requires { ⌜ sealedAboveRefusal items bidders (now floors) (now floors) (now bids) ≡ 0 ⌝ }
+    ensures { λ r. ⌜ Least items (rowsOf items bidders (now (bids .entry))) (now (floors .entry)) r ⌝ }
+{
+    let ends = least::close_and_turn(floors, floors, bids, items, bidders);
+    ends.close
+}
+
+// No round is played: the turn is where the auction with reduced bids closes, and the rounds are the largest fall up to it and the largest rise after it.
+fn falling_rounds(start: &[u16], floors: &[u16], bids: &[u16], items: usize, bidders: usize) -> Path
+    requires { ⌜ sealedAboveRefusal items bidders (now start) (now floors) (now bids) ≡ 0 ⌝ }
+    ensures { λ r. ⌜ (r .raised ≡ fallingClose (sheetAbove items bidders (now (start .entry)) (now (floors .entry)) (now (bids .entry))) .ups)
+        × (r .lowered ≡ fallingClose (sheetAbove items bidders (now (start .entry)) (now (floors .entry)) (now (bids .entry))) .downs)
+        × (r .prices ≡ places 32 (close (sheetAbove items bidders (now (start .entry)) (now (floors .entry)) (now (bids .entry))) .prices)) ⌝ }
+{
+    let first = prices::in_places(start);
+    let less = reduced(&first, bids, items, bidders);
+    let count = bidders * items;
+    let turn = closing_prices(floors, &less[..count], items, bidders);
+    let end = closing_prices(floors, bids, items, bidders);
+    Path {
+        raised: furthest(&end, &turn),
+        lowered: furthest(&first, &turn),
+        prices: end,
+    }
+}
+
 // ---- the sealed auction
 
 // The close of a sealed auction: the number that turned it down, or 0; rounds raised and lowered; the closing prices; each bidder's item,
@@ -75,6 +139,25 @@ fn refused(why: u8) -> Closing
     }
 }
 
+// The outcome with these rounds and closing prices: the names are the first in order at them.
+fn named(path: Path, floors: &[u16], bids: &[u16], items: usize, bidders: usize) -> Closing
+    requires { ⌜ Fit items bidders (now bids) × (length (now floors) ≡ items) ⌝ }
+    ensures { λ r. ⌜ ((q : List ℕ) → length q ≡ items → path .prices ≡ places 32 q
+        → r ≡ namedAt (sheetAbove items bidders q (now (floors .entry)) (now (bids .entry))) (path .raised) (path .lowered) q) ⌝ }
+{
+    let last = path.prices;
+    let d = demands::demands_at(&last, bids, items, bidders);
+    let low = prices::in_places(floors);
+    let names = assignment::first(&d.sets, d.nulls, round::above_floors(&low, &last), bidders);
+    Closing {
+        refusal: 0,
+        raised: path.raised,
+        lowered: path.lowered,
+        prices: last,
+        assignment: names,
+    }
+}
+
 // The sealed auction with floors: starting prices and floors, one for each item, and bids, bidder after bidder.
 pub fn sealed_above(
     items: usize,
@@ -91,17 +174,26 @@ pub fn sealed_above(
         return refused(why);
     }
     let path = rounds(start, floors, bids, items, bidders);
-    let last = path.prices;
-    let d = demands::demands_at(&last, bids, items, bidders);
-    let low = prices::in_places(floors);
-    let names = assignment::first(&d.sets, d.nulls, round::above_floors(&low, &last), bidders);
-    Closing {
-        refusal: 0,
-        raised: path.raised,
-        lowered: path.lowered,
-        prices: last,
-        assignment: names,
+    named(path, floors, bids, items, bidders)
+}
+
+// The same falling first: the falling set goes down until it is empty, and then the rising set goes up.
+pub fn falling_first(
+    items: usize,
+    bidders: usize,
+    start: &[u16],
+    floors: &[u16],
+    bids: &[u16],
+) -> Closing
+    ensures outcome { λ r. ⌜ r ≡ fallingFirstOf items bidders (now (start .entry)) (now (floors .entry)) (now (bids .entry)) ⌝ }
+    ensures promised { λ r. ⌜ (r .refusal ≡ 0 → PromisedFalling (sheetAbove items bidders (now (start .entry)) (now (floors .entry)) (now (bids .entry))) r) ⌝ }
+{
+    let why = bids::refusal_above(items, bidders, start, floors, bids);
+    if why != 0 {
+        return refused(why);
     }
+    let path = falling_rounds(start, floors, bids, items, bidders);
+    named(path, floors, bids, items, bidders)
 }
 
 // The sealed auction: starting prices, one for each item, and bids, bidder after bidder. The floors are 0.

@@ -150,9 +150,12 @@ module _ (m n : ℕ) (start floors bids : List ℕ) where
   pub accepted-within : sealedAboveRefusal m n start floors bids ≡ 0 → (length bids ≡ n * m) × (withinLimits (sheetAbove m n start floors bids) ≡ true)
   accepted-within e = let f = fine e in (f .bids-long, within f)
 
+  pub limits-accepted : length bids ≡ n * m → Limits (record { items = m; start = start; floors = floors; bids = rowsOf m n bids }) → sealedAboveRefusal m n start floors bids ≡ 0
+  limits-accepted e l = not-refused (all-fine e l)
+
   pub within-accepted : length bids ≡ n * m → withinLimits (sheetAbove m n start floors bids) ≡ true → sealedAboveRefusal m n start floors bids ≡ 0
   unfolding sheetAbove
-  within-accepted e w = not-refused (all-fine e (limits (sheetAbove m n start floors bids) w))
+  within-accepted e w = limits-accepted e (limits (sheetAbove m n start floors bids) w)
 
 -- ---- floors of 0 turn no sheet down
 

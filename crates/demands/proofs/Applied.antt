@@ -2,19 +2,21 @@
 -- Assumes nothing.
 use mathlib.Core.Path.{_≡_, refl}
 use mathlib.Core.Bool.{true, false}
-use mathlib.Core.List.{List, [], _∷_}
-use lib.ListN.{take}
+use mathlib.Core.List.{List, [], _∷_, _++_}
+use lib.ListN.{take, replicate}
 use Rattle.sets.specs.Count.{allBelow}
 use Rattle.sets.specs.Bit.{setOf, each}
 use Rattle.sets.specs.Lists.{tabulate, places}
 use Rattle.rule.specs.Sheet.{amount}
 use Rattle.rule.specs.Demand.{surplusAtLeast, best, Demand, demand, demands, nth}
+use Rattle.rule.specs.Equilibrium.{greatest}
+use Rattle.rule.specs.Reduced.{surplus}
 use Rattle.bids.specs.Lent.{lineOf, rowsOf}
-use Rattle.demands.specs.Demands.{complete, demandsOf, held}
+use Rattle.demands.specs.Demands.{surplusOf, complete, demandsOf, held}
 
 -- the definitions that the cases compute with
 computing : Unit {0}
-unfolding allBelow setOf each tabulate places amount surplusAtLeast best demand demands nth lineOf rowsOf complete demandsOf held
+unfolding allBelow setOf each tabulate places amount surplusAtLeast best demand demands nth lineOf rowsOf greatest surplus surplusOf complete demandsOf held
 computing = tt
 
 -- the most items and bidders, and one more of each
@@ -59,3 +61,12 @@ sets-held = refl
 pub null-held : held two .nulls ≡ 2
 unfolding computing
 null-held = refl
+
+-- bids of 3 and 4 at prices of 1 and 3: the first gives more; of 32 bids the last counts, and 33 are too many
+pub first-more : surplusOf (1 ∷ 3 ∷ []) (3 ∷ 4 ∷ []) ≡ 2
+unfolding computing
+first-more = refl
+
+pub most-bids : (surplusOf [] (replicate 31 0 ++ (5 ∷ [])) ≡ 5) × (surplusOf [] (replicate 33 5) ≡ 0)
+unfolding computing
+most-bids = (refl, refl)

@@ -1,57 +1,34 @@
 -- The options of the highest surplus. Assumes nothing.
-use Prim.Native.Nat.{ℕ, zero, suc, _+_, _-_, _≤_, _<_}
+use Prim.Native.Nat.{ℕ, suc, _+_, _≤_, _<_}
 use mathlib.Core.Path.{_≡_, sym, ap, _∙_}
-use mathlib.Core.Bool.{Bool, true, _&&_}
+use mathlib.Core.Bool.{Bool, true, _&&_, cond}
 use mathlib.Core.List.{List}
-use mathlib.Core.Logic.{_⊎_, inl, inr}
 use native.Mathlib.Omega.{arith}
 use native.Mathlib.Decide.{ℕ-discrete}
 use native.Mathlib.Numerals.{add-one}
-use lib.Dec.{ltb, eqb, leb}
-use lib.ListN.{getD}
-use borrow.Author.Tests.{eq-eqb, ne-eqb, leb-true, le-leb}
-use Rattle.sets.specs.Bit.{each}
-use Rattle.sets.proofs.Counting.{all-use, all-make, is-false}
+use lib.Dec.{ltb, eqb}
+use lib.ListN.{length, getD}
+use borrow.Author.Tests.{eq-eqb, ne-eqb, le-leb, lt-leb}
+use Rattle.sets.proofs.Counting.{is-false}
 use Rattle.rule.specs.Sheet.{amount}
-use Rattle.rule.specs.Demand.{surplusAtLeast, best, demand}
-use Rattle.rule.specs.Equilibrium.{greatest}
-use Rattle.rule.proofs.Greatest.{greatest-ge, greatest-some}
+use Rattle.rule.specs.Demand.{best, demand}
+use Rattle.rule.specs.Reduced.{surplus}
+use Rattle.rule.proofs.Zeros.{best-use, best-make}
+use Rattle.rule.proofs.Reduced.{surplus-most, surplus-some}
+use Rattle.demands.specs.Demands.{surplusOf}
 
 -- item i is bid for, and of the highest surplus
 abbrev pub demandedAt : (m : ℕ) (p b : List ℕ) → ℕ → Bool
 demandedAt m p b i = ltb 0 (amount b i) && best m p b i
 
-module _ (m : ℕ) (p b : List ℕ) (x : ℕ) (e : x ≡ greatest m (λ i. amount b i - amount p i)) where
-  -- how far an option's bid is over its price
-  abbrev gain : ℕ → ℕ
-  gain i = amount b i - amount p i
-
-  -- option i has no less surplus than option j
-  abbrev atLeast : ℕ → ℕ → Bool
-  atLeast i j = leb (amount b j + amount p i) (amount b i + amount p j)
-
-  -- no option has a higher surplus
-  most : (i : ℕ) → i < suc m → amount b i ≤ amount p i + x
-  unfolding amount
-  most zero l = omega arith
-  most (suc k) l = omega (arith, e, greatest-ge m gain (suc k) (omega arith) l)
-
-  -- who has it is best
+module _ (m : ℕ) (p b : List ℕ) (x : ℕ) (e : x ≡ surplus m p b) where
+  -- who has the highest surplus is best
   is-best : (i : ℕ) → amount b i ≡ amount p i + x → best m p b i ≡ true
-  unfolding best each surplusAtLeast
-  is-best i h = all-make (suc m) (atLeast i) (λ j l. le-leb (amount b j + amount p i) (amount b i + amount p j) (omega (arith, h, most j l)))
+  is-best i h = best-make m p b i (λ j l. omega (arith, h, e, surplus-most m p b j l))
 
   -- and the best has it
   best-is : (i : ℕ) → i < suc m → best m p b i ≡ true → amount b i ≡ amount p i + x
-  unfolding best each surplusAtLeast amount
-  best-is i l h = go (greatest-some m gain)
-    where
-      at : (j : ℕ) → j < suc m → amount b j + amount p i ≤ amount b i + amount p j
-      at j lj = leb-true (amount b j + amount p i) (amount b i + amount p j) (all-use (suc m) (atLeast i) h j lj)
-
-      go : (greatest m gain ≡ 0) ⊎ ((j : ℕ) × (0 < j) × (j < suc m) × (gain j ≡ greatest m gain)) → amount b i ≡ amount p i + x
-      go (inl z) = omega (arith, e, z, most i l, at 0 (omega arith))
-      go (inr w) = omega (arith, e, w .3, most i l, most (w .0) (w .2), at (w .0) (w .2), at 0 (omega arith))
+  best-is i l h = let w = surplus-some m p b in omega (arith, e, surplus-most m p b i l, best-use m p b i h (w .0) (w .1), w .2)
 
   test-is : (i : ℕ) → i < suc m → eqb (amount b i) (amount p i + x) ≡ best m p b i
   test-is i l = go (ℕ-discrete (amount b i) (amount p i + x))
@@ -74,3 +51,14 @@ module _ (m : ℕ) (p b : List ℕ) (x : ℕ) (e : x ≡ greatest m (λ i. amoun
       go : Dec (x ≡ 0) → eqb x 0 ≡ best m p b 0
       go (yes q) = eq-eqb x 0 q ∙ sym (is-best 0 (omega (arith, q)))
       go (no ne) = ne-eqb x 0 ne ∙ sym (is-false (best m p b 0) (λ h. ne (let w = best-is 0 (omega arith) h in omega (arith, w))))
+
+-- ---- a line of any length
+
+module _ (p b : List ℕ) where
+  pub line-surplus : length b ≤ 32 → surplus (length b) p b ≡ surplusOf p b
+  unfolding surplusOf
+  line-surplus l = ap (λ (t : Bool). cond t (surplus (length b) p b) 0) (sym (le-leb (length b) 32 l))
+
+  pub long-surplus : 32 < length b → 0 ≡ surplusOf p b
+  unfolding surplusOf
+  long-surplus l = ap (λ (t : Bool). cond t (surplus (length b) p b) 0) (sym (lt-leb (length b) 32 l))

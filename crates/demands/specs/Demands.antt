@@ -7,12 +7,17 @@ use lib.ListN.{length}
 use Rattle.sets.specs.Bit.{setOf}
 use Rattle.sets.specs.Lists.{places}
 use Rattle.rule.specs.Demand.{Demand, demands, nth}
+use Rattle.rule.specs.Reduced.{surplus}
 use Rattle.bids.specs.Lent.{rowsOf}
 use Rattle.demands.specs.declared.Demands.{Demands}
 
 -- at most 32 items and 64 bidders, and a bid for each of both
 unfoldable pub complete : (m n long : ℕ) → Bool
 complete m n long = leb m 32 && leb n 64 && eqb long (n * m)
+
+-- the highest surplus of a bidder whose bids are the line, null's included, which is 0; 0 also where the line is longer than 32
+unfoldable pub surplusOf : (prices line : List ℕ) → ℕ
+surplusOf prices line = cond (leb (length line) 32) (surplus (length line) prices line) 0
 
 -- the demands of n bidders for m items; of nobody where the bids are not complete
 unfoldable pub demandsOf : (m n : ℕ) (prices bids : List ℕ) → List Demand

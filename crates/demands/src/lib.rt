@@ -1,18 +1,17 @@
 // What bidders demand at prices.
 ghost use mathlib.Core.Path.{_≡_};
 ghost use mathlib.Core.Bool.{_&&_};
-ghost use Prim.Native.Nat.{_+_, _-_, _≤_};
+ghost use Prim.Native.Nat.{_+_, _≤_};
 ghost use lib.Dec.{ltb, eqb};
 ghost use lib.ListN.{length};
-ghost use Rattle.rule.specs.Sheet.{amount};
 ghost use Rattle.rule.specs.Demand.{demand};
-ghost use Rattle.rule.specs.Equilibrium.{greatest};
-ghost use Rattle.demands.specs.Demands.{complete, held, demandsOf};
+ghost use Rattle.rule.specs.Reduced.{surplus};
+ghost use Rattle.demands.specs.Demands.{surplusOf, complete, held, demandsOf};
 
 // The highest surplus of the items of the line, and of null, whose surplus is 0.
 fn highest(prices: &[u16; 32], line: &[u16]) -> u16
     requires { ⌜ length (now line) ≤ 32 ⌝ }
-    ensures { λ r. ⌜ r ≡ greatest (length (now (line .entry))) (λ i. amount (now (line .entry)) i - amount (now (prices .entry)) i) ⌝ }
+    ensures { λ r. ⌜ r ≡ surplus (length (now (line .entry))) (now (prices .entry)) (now (line .entry)) ⌝ }
 {
     let mut top: u16 = 0;
     let mut i: usize = 0;
@@ -21,6 +20,16 @@ fn highest(prices: &[u16; 32], line: &[u16]) -> u16
         i += 1;
     }
     top
+}
+
+// The same of any line; 0 of one with more than 32 bids.
+pub fn surplus_of(prices: &[u16; 32], line: &[u16]) -> u16
+    ensures { λ r. ⌜ r ≡ surplusOf (now (prices .entry)) (now (line .entry)) ⌝ }
+{
+    if line.len() <= 32 {
+        return highest(prices, line);
+    }
+    0
 }
 
 // Whether an item is demanded where the highest surplus is `top`: it is bid for, 0 being no bid, and its surplus is the highest.

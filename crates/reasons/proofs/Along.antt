@@ -21,7 +21,8 @@ use Rattle.rule.specs.Reasons.{reasonOf, reasonAt, roundCount}
 use Rattle.rule.proofs.Largest.{demand-bound, supply-bound}
 use Rattle.rule.proofs.Reasons.{count-is}
 use Rattle.prices.proofs.Moving.{places-amount, demands-places, aboveFloors-places, raise-room, raise-places, lower-places}
-use Rattle.auction.proofs.Settling.{Ready, path-long, aboveFloors-wide}
+use Rattle.rule.proofs.Path.{path-long}
+use Rattle.auction.proofs.Settling.{Ready, aboveFloors-wide}
 use Rattle.reasons.specs.Sheets.{reasonLine}
 use Rattle.reasons.specs.Steps.{movingSet, moveBy, ReasonIs, pricesAfter}
 use Rattle.reasons.specs.declared.Reason.{Reason}

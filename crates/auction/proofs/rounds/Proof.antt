@@ -29,7 +29,7 @@ returns c =
     let w = ends .ensures .0 (c .before .before .before .before .before .before .before .before .before .before .before .before .before .pre) in (
       raised-is s g (ends .result .close) (w .0) (ends .result .turn) (w .1) (first .result) (first .ensures) (c .before .before .before .furthest .result) (c .before .before .before .furthest .ensures),
       lowered-is s g (ends .result .close) (w .0) (ends .result .turn) (w .1) (c .furthest2 .result) (c .furthest2 .ensures),
-      last-is s g (ends .result .close) (w .0) (ends .result .turn) (w .1),
+      last-is s g (ends .result .close) (w .0),
     )
 
 pub rounds-spec : {M : Type 1} → statement M

@@ -5,6 +5,7 @@ use native.Mathlib.Omega.{arith}
 use lib.ListN.{length}
 use Rattle.rule.specs.Sheet.{amount}
 use Rattle.rule.specs.Equilibrium.{greatest}
+use Rattle.rule.specs.Reduced.{surplus}
 use Rattle.rule.proofs.Greatest.{greatest-next}
 use borrow.Author.Needs.{needs}
 use Rattle.demands.proofs.highest.Statement.{statement}
@@ -54,6 +55,7 @@ loop-again c =
     )
 
 returns : tie.Need-returns Inv-loop μ-loop
+unfolding surplus
 returns c =
     let a = c .before .before .before .args in
     let at = c .before .loop in
