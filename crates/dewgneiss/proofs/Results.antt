@@ -8,8 +8,8 @@ use Rattle.sets.specs.Lists.{places}
 use Rattle.rule.specs.Refusal.{badItems, badBidders, badLength, anyOver, badFloors}
 use Rattle.bids.specs.Refusal.{sealedRefusal, sealedAboveRefusal}
 use Rattle.bids.proofs.Limits.{fine}
-use Rattle.auction.specs.Sealed.{sealedOf, sealedAboveOf}
-use Rattle.auction.proofs.Sealing.{sealed-number, above-number, zero-floors}
+use Rattle.auction.specs.Sealed.{sealedOf, sealedAboveOf, fallingFirstOf}
+use Rattle.auction.proofs.Sealing.{sealed-number, above-number, falling-number, zero-floors}
 use Rattle.sheet.specs.Close.{byNumber}
 use Rattle.auction.specs.declared.Closing.{Closing}
 use Rattle.dewgneiss.specs.Lent.{unfit, lentRefusal, lentAboveRefusal, withLengths}
@@ -30,18 +30,32 @@ lent-sealed m n start bids rounds prices options =
     ap (λ (k : ℕ). withLengths k (unfit m n rounds prices options)) (sealed-number m n start bids)
     ∙ in-order (badItems m) (badBidders n) (badLength start m) (badLength bids (n * m)) (anyOver start) (anyOver bids) (unfit m n rounds prices options)
 
-pub lent-above : (m n : ℕ) (start floors bids rounds prices options : List ℕ)
-    → withLengths (sealedAboveOf m n start floors bids .refusal) (unfit m n rounds prices options) ≡ lentAboveRefusal m n start floors bids rounds prices options
+-- with floors, whatever the outcome is, if it has the number of the sheet
+above-in-order : (m n : ℕ) (start floors bids rounds prices options : List ℕ) (why : ℕ) → why ≡ sealedAboveRefusal m n start floors bids
+    → withLengths why (unfit m n rounds prices options) ≡ lentAboveRefusal m n start floors bids rounds prices options
 unfolding lentAboveRefusal sealedAboveRefusal
-lent-above m n start floors bids rounds prices options =
-    ap (λ (k : ℕ). withLengths k (unfit m n rounds prices options)) (above-number m n start floors bids)
+above-in-order m n start floors bids rounds prices options why e =
+    ap (λ (k : ℕ). withLengths k (unfit m n rounds prices options)) e
     ∙ in-order-above (badItems m) (badBidders n) (badLength start m) (badLength floors m) (badLength bids (n * m)) (anyOver start) (badFloors start floors) (anyOver bids)
     (unfit m n rounds prices options)
 
-pub counts-above : (m n : ℕ) (start floors bids : List ℕ) → sealedAboveOf m n start floors bids .refusal ≡ 0 → (m ≤ 32) × (n ≤ 64)
-counts-above m n start floors bids z =
-    let f = fine m n start floors bids (sym (above-number m n start floors bids) ∙ z) in
-    (f .max-items, f .max-bidders)
+above-counts : (m n : ℕ) (start floors bids : List ℕ) (why : ℕ) → why ≡ sealedAboveRefusal m n start floors bids → why ≡ 0 → (m ≤ 32) × (n ≤ 64)
+above-counts m n start floors bids why e z = let f = fine m n start floors bids (sym e ∙ z) in (f .max-items, f .max-bidders)
+
+module _ (m n : ℕ) (start floors bids : List ℕ) where
+  pub lent-above : (rounds prices options : List ℕ)
+      → withLengths (sealedAboveOf m n start floors bids .refusal) (unfit m n rounds prices options) ≡ lentAboveRefusal m n start floors bids rounds prices options
+  lent-above rounds prices options = above-in-order m n start floors bids rounds prices options _ (above-number m n start floors bids)
+
+  pub counts-above : sealedAboveOf m n start floors bids .refusal ≡ 0 → (m ≤ 32) × (n ≤ 64)
+  counts-above = above-counts m n start floors bids _ (above-number m n start floors bids)
+
+  pub lent-falling : (rounds prices options : List ℕ)
+      → withLengths (fallingFirstOf m n start floors bids .refusal) (unfit m n rounds prices options) ≡ lentAboveRefusal m n start floors bids rounds prices options
+  lent-falling rounds prices options = above-in-order m n start floors bids rounds prices options _ (falling-number m n start floors bids)
+
+  pub counts-falling : fallingFirstOf m n start floors bids .refusal ≡ 0 → (m ≤ 32) × (n ≤ 64)
+  counts-falling = above-counts m n start floors bids _ (falling-number m n start floors bids)
 
 pub counts-sealed : (m n : ℕ) (start bids : List ℕ) → sealedOf m n start bids .refusal ≡ 0 → (m ≤ 32) × (n ≤ 64)
 counts-sealed m n start bids z = counts-above m n start (replicate m 0) bids (ap (λ (x : Closing). x .refusal) (zero-floors m n start bids) ∙ z)

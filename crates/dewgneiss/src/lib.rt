@@ -4,7 +4,7 @@ ghost use mathlib.Core.List.{[], _∷_};
 ghost use Prim.Native.Nat.{_≤_};
 ghost use lib.ListN.{length};
 ghost use Rattle.sets.specs.Lists.{places};
-ghost use Rattle.auction.specs.Sealed.{sealedOf, sealedAboveOf};
+ghost use Rattle.auction.specs.Sealed.{sealedOf, sealedAboveOf, fallingFirstOf};
 ghost use Rattle.lines.specs.Lines.{writtenTo};
 ghost use Rattle.sheet.specs.Close.{sheetRefusal, closedTo, byNumber};
 ghost use Rattle.reasons.specs.Sheets.{answerOf};
@@ -162,6 +162,31 @@ pub extern "C" fn dewgneiss_sealed_above(
     let m = items as usize;
     let n = bidders as usize;
     let c = auction::sealed_above(m, n, start, floors, bids);
+    lend(c, m, n, rounds, prices, options)
+}
+
+// The same falling first.
+#[no_mangle]
+pub extern "C" fn dewgneiss_falling_first(
+    items: u32,
+    bidders: u32,
+    start: &[u16],
+    floors: &[u16],
+    bids: &[u16],
+    rounds: &mut [u32],
+    prices: &mut [u16],
+    options: &mut [u8],
+) -> u8
+    ensures number { λ r. ⌜ r ≡ lentAboveRefusal items bidders (now (start .entry)) (now (floors .entry)) (now (bids .entry)) (now (rounds .entry)) (now (prices .entry)) (now (options .entry)) ⌝ }
+    ensures rounds { λ r. ⌜ now (rounds .exit) ≡ byNumber r
+        (fallingFirstOf items bidders (now (start .entry)) (now (floors .entry)) (now (bids .entry)) .raised ∷ fallingFirstOf items bidders (now (start .entry)) (now (floors .entry)) (now (bids .entry)) .lowered ∷ [])
+        (now (rounds .entry)) ⌝ }
+    ensures prices { λ r. ⌜ now (prices .exit) ≡ byNumber r (places items (fallingFirstOf items bidders (now (start .entry)) (now (floors .entry)) (now (bids .entry)) .prices)) (now (prices .entry)) ⌝ }
+    ensures options { λ r. ⌜ now (options .exit) ≡ byNumber r (places bidders (fallingFirstOf items bidders (now (start .entry)) (now (floors .entry)) (now (bids .entry)) .assignment)) (now (options .entry)) ⌝ }
+{
+    let m = items as usize;
+    let n = bidders as usize;
+    let c = auction::falling_first(m, n, start, floors, bids);
     lend(c, m, n, rounds, prices, options)
 }
 
