@@ -3,17 +3,20 @@
 //! Here a bid sheet may have a line of floors: the second line, `f` and then four digits for each item. The proved reader of bid sheets knows no such line, and a
 //! sheet without one means floors of 0.
 
-use crate::{close_sheet, sealed_above, Closing};
+use crate::{close_sheet, Closing, Order};
 use std::error::Error;
 
-/// An accepted sheet: the starting prices, the floors, and the bids, bidder after bidder; and how it closes.
+/// An accepted sheet: the starting prices, the floors, and the bids, bidder after bidder; and how it closes, in one order.
 pub(crate) struct Accepted {
     pub start: Vec<u16>,
     pub floors: Vec<u16>,
     /// Whether the sheet has a line of floors. Where it has none they are 0.
     pub has_floors: bool,
     pub bids: Vec<u16>,
+    pub order: Order,
     pub closing: Closing,
+    /// How many rounds it takes rising first, and falling first.
+    pub rounds: [u32; 2],
 }
 
 /// A sheet without its line of floors, and the digits of that line. A line of bids that begins with f has whole groups of four digits with it.
@@ -51,7 +54,7 @@ fn read_floors(digits: &[u8], items: usize) -> Result<Vec<u16>, Box<dyn Error>> 
 
 impl Accepted {
     /// An error where the sheet is turned down: 6 for the first four bytes, 1, 2, 6 for the rest, 4, 18, 5.
-    pub fn read(bytes: &[u8]) -> Result<Accepted, Box<dyn Error>> {
+    pub fn read(bytes: &[u8], order: Order) -> Result<Accepted, Box<dyn Error>> {
         let (plain, digits) = apart(bytes);
         // The proved reader says whether this is a bid sheet; amounts are left to the auction with floors, because 18 stands between 4 and 5.
         match close_sheet(&plain) {
@@ -63,8 +66,14 @@ impl Accepted {
         let start = numbers(&lines[0][4..]);
         let floors = digits.map_or(Ok(vec![0; start.len()]), |digits| read_floors(digits, start.len()))?;
         let bids: Vec<u16> = lines[1..].iter().flat_map(|line| numbers(line)).collect();
-        let closing = sealed_above(start.len() as u32, lines.len() as u32 - 1, &start, &floors, &bids)?;
-        Ok(Accepted { start, floors, has_floors: digits.is_some(), bids, closing })
+        let close = |order: Order| order.close(start.len() as u32, lines.len() as u32 - 1, &start, &floors, &bids);
+        let [rising, falling] = [close(Order::RisingFirst)?, close(Order::FallingFirst)?];
+        let rounds = [&rising, &falling].map(|closing| closing.raised + closing.lowered);
+        let closing = match order {
+            Order::RisingFirst => rising,
+            Order::FallingFirst => falling,
+        };
+        Ok(Accepted { start, floors, has_floors: digits.is_some(), bids, order, closing, rounds })
     }
 
     pub fn bidders(&self) -> usize {

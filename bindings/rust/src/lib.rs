@@ -23,6 +23,12 @@
 //! assert_eq!(closing.prices, [0, 5]); // nobody has item 2, which stands at its floor
 //! assert_eq!(closing.names, [1]);
 //!
+//! // Example 6 falling first: 4 rounds lowered and then 2 raised, to the same prices and names.
+//! let closing = dewgneiss::falling_first(2, 3, &[4, 4], &[0, 0], &[2, 6, 3, 7, 6, 7]).unwrap();
+//! assert_eq!((closing.lowered, closing.raised), (4, 2));
+//! assert_eq!(dewgneiss::falling_turn(&[4, 4], &[0, 0], &[2, 6, 3, 7, 6, 7], &closing).unwrap(), [0, 4]);
+//! assert_eq!((closing.prices, closing.names), (vec![2, 6], vec![0, 2, 1]));
+//!
 //! let refusal = dewgneiss::sealed(2, 3, &[4, 4096], &[2, 6, 3, 7, 6, 7]).unwrap_err();
 //! assert_eq!(refusal.number(), 4);
 //! println!("{refusal}");
@@ -32,6 +38,7 @@
 
 mod accepted;
 pub mod csv;
+mod order;
 pub mod path;
 mod reasons;
 mod refusal;
@@ -39,9 +46,10 @@ pub mod table;
 mod turn;
 
 pub use accepted::has_floors;
-pub use reasons::{reason_sheet, reason_sheet_into, reasons, reasons_above, Kind, Reason};
+pub use order::Order;
+pub use reasons::{falling_reasons, reason_sheet, reason_sheet_into, reasons, reasons_above, Kind, Reason};
 pub use refusal::Refusal;
-pub use turn::{turn, turn_above, NoTurn};
+pub use turn::{falling_turn, turn, turn_above, NoTurn};
 
 /// The most items.
 pub const ITEMS: usize = 32;
@@ -88,25 +96,34 @@ mod linked {
             names: *mut u8,
             names_len: usize,
         ) -> u8;
-        pub fn dewgneiss_sealed_above(
-            items: u32,
-            bidders: u32,
-            start: *const u16,
-            start_len: usize,
-            floors: *const u16,
-            floors_len: usize,
-            bids: *const u16,
-            bids_len: usize,
-            rounds: *mut u32,
-            rounds_len: usize,
-            prices: *mut u16,
-            prices_len: usize,
-            names: *mut u8,
-            names_len: usize,
-        ) -> u8;
         pub fn dewgneiss_close_sheet(bytes: *const u8, bytes_len: usize, out: *mut u8, out_len: usize) -> u8;
         pub fn dewgneiss_reasons(bytes: *const u8, bytes_len: usize, out: *mut u8, out_len: usize) -> usize;
     }
+
+    // Sealed auctions with floors, which take and leave the same.
+    macro_rules! above {
+        ($($name:ident),*) => {
+            extern "C" {
+                $(pub fn $name(
+                    items: u32,
+                    bidders: u32,
+                    start: *const u16,
+                    start_len: usize,
+                    floors: *const u16,
+                    floors_len: usize,
+                    bids: *const u16,
+                    bids_len: usize,
+                    rounds: *mut u32,
+                    rounds_len: usize,
+                    prices: *mut u16,
+                    prices_len: usize,
+                    names: *mut u8,
+                    names_len: usize,
+                ) -> u8;)*
+            }
+        };
+    }
+    above!(dewgneiss_sealed_above, dewgneiss_falling_first);
 }
 
 /// Calls a proved function: with numbers, with slices that it reads, and with slices that it writes to.
@@ -132,6 +149,16 @@ pub fn sealed(items: u32, bidders: u32, start: &[u16], bids: &[u16]) -> Result<C
 /// Refused with 1, 2, 3, 4, 18 or 5, in this order; 18 for a floor above 4,095 or above its starting price.
 pub fn sealed_above(items: u32, bidders: u32, start: &[u16], floors: &[u16], bids: &[u16]) -> Result<Closing, Refusal> {
     closing(items, bidders, |rounds, prices, names| sealed_above_into(items, bidders, start, floors, bids, rounds, prices, names))
+}
+
+/// The same falling first: the falling set goes down until it is empty, and then the rising set goes up. It ends in the prices and names of [`sealed_above`]; the
+/// rounds are others.
+///
+/// Refused as [`sealed_above`] is.
+pub fn falling_first(items: u32, bidders: u32, start: &[u16], floors: &[u16], bids: &[u16]) -> Result<Closing, Refusal> {
+    closing(items, bidders, |rounds, prices, names| {
+        falling_first_into(items, bidders, start, floors, bids, rounds, prices, names)
+    })
 }
 
 /// The closing that a call writes into memory which is lent to it.
@@ -163,19 +190,30 @@ pub fn sealed_into(
     refusal::of(call!(dewgneiss_sealed(items, bidders; start, bids; rounds, prices, names)))
 }
 
-/// [`sealed_above`] into lent memory, as [`sealed_into`].
-#[allow(clippy::too_many_arguments)] // as the proved function has them
-pub fn sealed_above_into(
-    items: u32,
-    bidders: u32,
-    start: &[u16],
-    floors: &[u16],
-    bids: &[u16],
-    rounds: &mut [u32],
-    prices: &mut [u16],
-    names: &mut [u8],
-) -> Result<(), Refusal> {
-    refusal::of(call!(dewgneiss_sealed_above(items, bidders; start, floors, bids; rounds, prices, names)))
+/// Sealed auctions with floors into lent memory: they take and leave the same.
+macro_rules! above_into {
+    ($($(#[$doc:meta])* $name:ident: $function:ident;)*) => {
+        $($(#[$doc])*
+        #[allow(clippy::too_many_arguments)] // as the proved function has them
+        pub fn $name(
+            items: u32,
+            bidders: u32,
+            start: &[u16],
+            floors: &[u16],
+            bids: &[u16],
+            rounds: &mut [u32],
+            prices: &mut [u16],
+            names: &mut [u8],
+        ) -> Result<(), Refusal> {
+            refusal::of(call!($function(items, bidders; start, floors, bids; rounds, prices, names)))
+        })*
+    };
+}
+above_into! {
+    /// [`sealed_above`] into lent memory, as [`sealed_into`].
+    sealed_above_into: dewgneiss_sealed_above;
+    /// [`falling_first`] into lent memory, as [`sealed_into`].
+    falling_first_into: dewgneiss_falling_first;
 }
 
 /// The closing sheet of a bid sheet, both as bytes. Every floor is 0.

@@ -2,7 +2,7 @@
 
 use crate::accepted::Accepted;
 use crate::table::counted;
-use crate::{reasons_above, Closing, Kind, Reason};
+use crate::{falling_reasons, reasons_above, Closing, Kind, Order, Reason};
 use std::error::Error;
 use std::fmt::{self, Write};
 
@@ -40,12 +40,14 @@ impl fmt::Display for Astray {
 
 impl Error for Astray {}
 
-/// Holds the rounds to a close: as many raised, as many lowered, and the last prices.
-fn leading(start: &[u16], reasons: Vec<Reason>, closing: &Closing) -> Result<Vec<Reason>, Astray> {
+/// Holds the rounds to an order and its close: one way up to the turn and the other way after it, as many raised, as many lowered, and the last prices.
+fn leading(order: Order, start: &[u16], reasons: Vec<Reason>, closing: &Closing) -> Result<Vec<Reason>, Astray> {
+    let first = reasons.iter().take_while(|r| r.kind == order.first()).count();
+    let turned = reasons[first..].iter().all(|r| r.kind != order.first());
     let raised = reasons.iter().filter(|r| r.kind == Kind::Raised).count();
     let last = reasons.iter().fold(start.to_vec(), |prices, reason| moved(&prices, reason));
     let counts = [closing.raised as usize, closing.lowered as usize];
-    ([raised, reasons.len() - raised] == counts && last == closing.prices).then_some(reasons).ok_or(Astray)
+    (turned && [raised, reasons.len() - raised] == counts && last == closing.prices).then_some(reasons).ok_or(Astray)
 }
 
 /// Whether two rounds look the same: one way, the same items, as many bidders.
@@ -109,12 +111,16 @@ impl Row {
     }
 }
 
-/// The table for a bid sheet, with a row of floors where it has a line of them; an error where it is turned down.
-pub fn show(bytes: &[u8]) -> Result<String, Box<dyn Error>> {
-    let sheet = Accepted::read(bytes)?;
+/// The table for a bid sheet in this order, with a row of floors where it has a line of them; an error where it is turned down.
+pub fn show(bytes: &[u8], order: Order) -> Result<String, Box<dyn Error>> {
+    let sheet = Accepted::read(bytes, order)?;
     let (items, bidders) = (sheet.start.len() as u32, sheet.bidders() as u32);
-    let reasons = reasons_above(items, bidders, &sheet.start, &sheet.floors, &sheet.bids)?;
-    Ok(written(&sheet, &leading(&sheet.start, reasons, &sheet.closing)?)?)
+    let reasons = match order {
+        Order::RisingFirst => reasons_above,
+        Order::FallingFirst => falling_reasons,
+    };
+    let reasons = reasons(items, bidders, &sheet.start, &sheet.floors, &sheet.bids)?;
+    Ok(written(&sheet, &leading(order, &sheet.start, reasons, &sheet.closing)?)?)
 }
 
 fn written(sheet: &Accepted, reasons: &[Reason]) -> Result<String, fmt::Error> {
@@ -145,17 +151,26 @@ fn written(sheet: &Accepted, reasons: &[Reason]) -> Result<String, fmt::Error> {
 mod tests {
     use super::*;
 
-    /// Rounds that do not lead to the close are not shown: one too many, one too few, another kind, another item.
+    /// Rounds that do not lead to the close are not shown: one too many, one too few, another kind, another item, another order.
     #[test]
     fn rounds_that_lead_elsewhere() {
         let round = |kind, items| Reason { kind, items, bidders: 1 };
         let [up, down] = [round(Kind::Raised, 0b10), round(Kind::Lowered, 0b01)];
         let closing = Closing { raised: 1, lowered: 1, prices: vec![3, 5], names: vec![1] };
-        let held = |reasons: &[Reason]| leading(&[4, 4], reasons.to_vec(), &closing).map(|r| r.len());
-        assert_eq!(held(&[up, down]), Ok(2));
+        let held = |order, reasons: &[Reason]| leading(order, &[4, 4], reasons.to_vec(), &closing).map(|r| r.len());
+        let [rising, falling] = [Order::RisingFirst, Order::FallingFirst];
+        assert_eq!([held(rising, &[up, down]), held(falling, &[down, up])], [Ok(2); 2]);
+        assert_eq!([held(rising, &[down, up]), held(falling, &[up, down])], [Err(Astray); 2]);
         for wrong in [&[up][..], &[down], &[up, up, down], &[up, up], &[up, round(Kind::Lowered, 0b10)], &[]] {
-            assert_eq!(held(wrong), Err(Astray), "{wrong:?}");
+            let back: Vec<Reason> = wrong.iter().rev().copied().collect();
+            assert_eq!([held(rising, wrong), held(falling, &back)], [Err(Astray); 2], "{wrong:?}");
         }
-        assert_eq!(leading(&[0, 4], vec![up, down], &closing), Err(Astray));
+        assert_eq!(leading(rising, &[0, 4], vec![up, down], &closing), Err(Astray));
+        // As many either way, and the same prices at the end; but the auction would turn twice.
+        let back = Closing { raised: 2, lowered: 1, prices: vec![4, 5], names: vec![1] };
+        let rounds = [up, down, round(Kind::Raised, 0b01)];
+        for order in [rising, falling] {
+            assert_eq!(leading(order, &[4, 4], rounds.to_vec(), &back), Err(Astray));
+        }
     }
 }

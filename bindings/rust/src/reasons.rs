@@ -1,7 +1,7 @@
 //! The sheet of reasons: for every round its kind, the items that moved, and the bidders for whose demands they did.
 
 use crate::accepted::written;
-use crate::turn::bids_beyond;
+use crate::turn::{bids_beyond, bids_to_fall_by};
 use crate::{call, refusal, sealed_above, Refusal, LONGEST_REASONS};
 
 /// What a round did to prices.
@@ -37,6 +37,18 @@ pub fn reasons(bytes: &[u8]) -> Result<Vec<Reason>, Refusal> {
 pub fn reasons_above(items: u32, bidders: u32, start: &[u16], floors: &[u16], bids: &[u16]) -> Result<Vec<Reason>, Refusal> {
     sealed_above(items, bidders, start, floors, bids)?;
     reasons(less_floors(start, floors, bids).as_bytes())
+}
+
+/// The same falling first: the falls to the turn, and then the rises from there, each those of another auction (plain Rust, not proved).
+///
+/// Refused as [`reasons_above`] is.
+pub fn falling_reasons(items: u32, bidders: u32, start: &[u16], floors: &[u16], bids: &[u16]) -> Result<Vec<Reason>, Refusal> {
+    sealed_above(items, bidders, start, floors, bids)?;
+    // By these bids the auction plays the falls alone, and closes at the turn.
+    let less = bids_to_fall_by(start, bids);
+    let turn = sealed_above(items, bidders, start, floors, &less)?.prices;
+    let falls = reasons_above(items, bidders, start, floors, &less)?;
+    Ok([falls, reasons_above(items, bidders, &turn, floors, bids)?].concat())
 }
 
 /// The bid sheet from which the floors are taken: starting prices and bids less by them. It moves as the auction with floors does, at prices that are less by the

@@ -1,30 +1,45 @@
 //! A closing for people: tables in decimal.
 
 use crate::accepted::Accepted;
-use crate::turn_above;
+use crate::turn::turn_of;
+use crate::Order;
+use std::cmp::Ordering;
 use std::error::Error;
 use std::fmt::Write;
 
-/// The first line of a table: the counts, whether there are floors, and the rounds.
+/// The first lines of a table: the counts, whether there are floors, the order and its rounds; and which order takes fewer.
 pub(crate) fn counted(sheet: &Accepted) -> Result<String, std::fmt::Error> {
     let mut out = String::new();
     let count = |n: usize, word: &str| format!("{n} {word}{}", if n == 1 { "" } else { "s" });
     let (items, bidders) = (count(sheet.start.len(), "pan"), count(sheet.bidders(), "raker"));
     let floors = if sheet.has_floors { ", with floors" } else { "" };
     let [raised, lowered] = [sheet.closing.raised, sheet.closing.lowered].map(|n| count(n as usize, "round"));
-    writeln!(out, "{items}, {bidders}{floors}; {raised} raised, {lowered} lowered.\n")?;
+    let rounds = match sheet.order {
+        Order::RisingFirst => format!("rising first; {raised} raised, {lowered} lowered"),
+        Order::FallingFirst => format!("falling first; {lowered} lowered, {raised} raised"),
+    };
+    writeln!(out, "{items}, {bidders}{floors}, {rounds}.\n{}\n", compared(sheet.rounds))?;
     Ok(out)
 }
 
-/// The tables for a bid sheet, with a column of floors where it has a line of them; an error where it is turned down.
-pub fn show(bytes: &[u8]) -> Result<String, Box<dyn Error>> {
-    let sheet = Accepted::read(bytes)?;
-    let turn = turn_above(&sheet.start, &sheet.floors, &sheet.bids, &sheet.closing)?;
+/// Which order takes fewer rounds.
+fn compared([rising, falling]: [u32; 2]) -> String {
+    match rising.cmp(&falling) {
+        Ordering::Less => format!("Rising first takes fewer rounds: {rising}, against {falling} falling first."),
+        Ordering::Equal => format!("Rising first and falling first take equally many rounds: {rising}."),
+        Ordering::Greater => format!("Falling first takes fewer rounds: {falling}, against {rising} rising first."),
+    }
+}
+
+/// The tables for a bid sheet in this order, with a column of floors where it has a line of them; an error where it is turned down.
+pub fn show(bytes: &[u8], order: Order) -> Result<String, Box<dyn Error>> {
+    let sheet = Accepted::read(bytes, order)?;
+    let turn = turn_of(order, &sheet.start, &sheet.floors, &sheet.bids, &sheet.closing)?;
     Ok(written(&sheet, &turn)?)
 }
 
 fn written(sheet: &Accepted, turn: &[u16]) -> Result<String, std::fmt::Error> {
-    let Accepted { start, floors, has_floors, bids, closing } = sheet;
+    let Accepted { start, floors, has_floors, bids, closing, .. } = sheet;
     let items = start.len();
     let mut out = counted(sheet)?;
     let (head, nobody) = if *has_floors { ("  floor", "nobody, at its floor") } else { ("", "nobody") };

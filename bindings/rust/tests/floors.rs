@@ -2,7 +2,11 @@
 
 use dewgneiss::csv::bid_sheet;
 use dewgneiss::table::show;
-use dewgneiss::{has_floors, path, reasons_above, sealed, sealed_above, turn_above, Closing, Kind, NoTurn};
+use dewgneiss::Order::{FallingFirst, RisingFirst};
+use dewgneiss::{
+    falling_first, falling_reasons, falling_turn, has_floors, path, reasons_above, sealed, sealed_above, turn_above,
+};
+use dewgneiss::{Closing, Kind, NoTurn, Reason};
 use std::path::{Path, PathBuf};
 use std::process::{Command, Output};
 
@@ -27,10 +31,8 @@ fn closing() -> Closing {
 fn the_example_by_numbers() {
     assert_eq!(sealed_above(3, 3, &START, &FLOORS, &BIDS), Ok(closing()));
     assert_eq!(turn_above(&START, &FLOORS, &BIDS, &closing()), Ok(vec![4, 6, 10]));
-    let rounds = reasons_above(3, 3, &START, &FLOORS, &BIDS).unwrap();
-    let rounds: Vec<_> = rounds.iter().map(|r| (r.kind, r.items, r.bidders)).collect();
     assert_eq!(
-        rounds,
+        rounds(reasons_above(3, 3, &START, &FLOORS, &BIDS).unwrap()),
         [
             (Kind::Raised, 0b010, 0b111),
             (Kind::Raised, 0b010, 0b011),
@@ -38,6 +40,25 @@ fn the_example_by_numbers() {
             (Kind::Lowered, 0b100, 0b000)
         ]
     );
+}
+
+#[test]
+fn the_example_falling_first() {
+    assert_eq!(falling_first(3, 3, &START, &FLOORS, &BIDS), Ok(closing()));
+    assert_eq!(falling_turn(&START, &FLOORS, &BIDS, &closing()), Ok(vec![3, 4, 8]));
+    assert_eq!(
+        rounds(falling_reasons(3, 3, &START, &FLOORS, &BIDS).unwrap()),
+        [
+            (Kind::Lowered, 0b101, 0b000),
+            (Kind::Lowered, 0b100, 0b000),
+            (Kind::Raised, 0b010, 0b011),
+            (Kind::Raised, 0b010, 0b011)
+        ]
+    );
+}
+
+fn rounds(reasons: Vec<Reason>) -> Vec<(Kind, u32, u64)> {
+    reasons.iter().map(|r| (r.kind, r.items, r.bidders)).collect()
 }
 
 /// Without floors bidder 2 has item 3 at 0, and the other prices fall as well.
@@ -66,8 +87,10 @@ fn what_is_turned_down() {
         let numbers = [
             sealed_above(items, bidders, start, floors, bids).unwrap_err().number(),
             reasons_above(items, bidders, start, floors, bids).unwrap_err().number(),
+            falling_first(items, bidders, start, floors, bids).unwrap_err().number(),
+            falling_reasons(items, bidders, start, floors, bids).unwrap_err().number(),
         ];
-        assert_eq!(numbers, [number; 2], "{items} {bidders} {start:?} {floors:?} {bids:?}");
+        assert_eq!(numbers, [number; 4], "{items} {bidders} {start:?} {floors:?} {bids:?}");
     }
     let said = sealed_above(1, 1, &[4], &[5], &[6]).unwrap_err().to_string();
     assert!(said.starts_with("turned down with 18: a floor is above 4,095 or above its pan's starting rent: mend"), "{said}");
@@ -86,11 +109,8 @@ fn no_turn() {
 }
 
 #[test]
-fn the_example_for_people() {
-    let sheet = text("floors.sheet");
-    assert_eq!(bid_sheet(text("floors.csv").as_bytes()).unwrap(), sheet);
-    assert_eq!(show(sheet.as_bytes()).unwrap(), text("floors.shown"));
-    assert_eq!(path::show(sheet.as_bytes()).unwrap(), text("floors.path"));
+fn the_example_as_a_table() {
+    assert_eq!(bid_sheet(text("floors.csv").as_bytes()).unwrap(), text("floors.sheet"));
 }
 
 /// Floors of 0 are shown where the sheet has a line of them, and change nothing else.
@@ -100,12 +120,15 @@ fn a_line_of_zeros() {
     let zeros = plain.replacen('\n', "\nf00000000\n", 1);
     assert!(has_floors(zeros.as_bytes()) && !has_floors(plain.as_bytes()));
     let without = |shown: String| shown.replace(", with floors", "").replace("  floor", "").replace("      0      4", "      4");
-    assert_eq!(without(show(zeros.as_bytes()).unwrap()), show(plain.as_bytes()).unwrap());
     let rows = |shown: String| shown.lines().skip(1).filter(|row| !row.starts_with(" floor")).collect::<Vec<_>>().join("\n");
-    assert_eq!(rows(path::show(zeros.as_bytes()).unwrap()), rows(path::show(plain.as_bytes()).unwrap()));
+    for order in [RisingFirst, FallingFirst] {
+        assert_eq!(without(show(zeros.as_bytes(), order).unwrap()), show(plain.as_bytes(), order).unwrap());
+        let [zeros, plain] = [&zeros, &plain].map(|sheet| path::show(sheet.as_bytes(), order).unwrap());
+        assert_eq!(rows(zeros), rows(plain));
+    }
 }
 
-/// 6 for the first four bytes, 1, 2, 6 for the rest, 4, 18, 5, by both tools.
+/// 6 for the first four bytes, 1, 2, 6 for the rest, 4, 18, 5, by both tools in both orders.
 #[test]
 fn a_bad_sheet_with_floors_is_not_shown() {
     for (sheet, said) in [
@@ -130,9 +153,11 @@ fn a_bad_sheet_with_floors_is_not_shown() {
         ("01010fff\nf1000\n0000\n", "18: a floor"),
         ("0101000a\nf000a\n1000\n", "05: a bid"),
     ] {
-        for shown in [show(sheet.as_bytes()), path::show(sheet.as_bytes())] {
-            let words = shown.unwrap_err().to_string();
-            assert!(words.starts_with(&format!("turned down with {said}")), "{sheet:?}: {words}");
+        for order in [RisingFirst, FallingFirst] {
+            for shown in [show(sheet.as_bytes(), order), path::show(sheet.as_bytes(), order)] {
+                let words = shown.unwrap_err().to_string();
+                assert!(words.starts_with(&format!("turned down with {said}")), "{sheet:?}: {words}");
+            }
         }
     }
 }
@@ -143,7 +168,7 @@ fn bids_that_begin_with_f() {
     for sheet in ["01010000\nf000\n", "02010000000\nf0000000\n", "01010000\nf", "01010000\nf0001", ""] {
         assert!(!has_floors(sheet.as_bytes()), "{sheet:?}");
     }
-    assert!(show(b"01010000\nf000\n").unwrap_err().to_string().starts_with("turned down with 05"));
+    assert!(show(b"01010000\nf000\n", RisingFirst).unwrap_err().to_string().starts_with("turned down with 05"));
 }
 
 /// The largest sheet with floors; a byte more is too many.
@@ -153,8 +178,8 @@ fn the_longest_sheet() {
     let table = row("4095") + "floors," + &row("4095") + &row("4095").repeat(64);
     let sheet = bid_sheet(table.as_bytes()).unwrap();
     assert_eq!(sheet.len(), dewgneiss::LONGEST_SHEET_ABOVE);
-    assert!(show(sheet.as_bytes()).is_ok() && path::show(sheet.as_bytes()).is_ok());
-    assert!(show((sheet + "\n").as_bytes()).unwrap_err().to_string().starts_with("turned down with 06"));
+    assert!(show(sheet.as_bytes(), RisingFirst).is_ok() && path::show(sheet.as_bytes(), FallingFirst).is_ok());
+    assert!(show((sheet + "\n").as_bytes(), RisingFirst).unwrap_err().to_string().starts_with("turned down with 06"));
 }
 
 /// The row of floors as it may be written; where a spreadsheet fills the other rows up, too.

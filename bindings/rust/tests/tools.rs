@@ -1,8 +1,8 @@
 //! The tools for people: `show`, `path` and `make`.
 
 use dewgneiss::csv::bid_sheet;
-use dewgneiss::path;
 use dewgneiss::table::show;
+use dewgneiss::{path, Order};
 use std::fs::File;
 use std::path::Path;
 use std::process::{Command, Output, Stdio};
@@ -11,23 +11,44 @@ fn example(name: &str) -> Vec<u8> {
     std::fs::read(Path::new(env!("CARGO_MANIFEST_DIR")).join("../../examples").join(name)).expect("an example")
 }
 
-#[test]
-fn example_6_is_shown() {
-    assert_eq!(show(&example("example-6.sheet")).unwrap().into_bytes(), example("example-6.shown"));
-}
+/// The orders, with what stands before the kind of their examples.
+const ORDERS: [(Order, &str); 2] = [(Order::RisingFirst, ""), (Order::FallingFirst, "falling-")];
 
 #[test]
-fn the_rounds_are_shown() {
-    for name in ["example-6", "k9"] {
-        let shown = path::show(&example(&format!("{name}.sheet"))).unwrap();
-        assert_eq!(shown.into_bytes(), example(&format!("{name}.path")), "{name}");
+fn the_examples_are_shown() {
+    for name in ["example-6", "floors"] {
+        let sheet = example(&format!("{name}.sheet"));
+        for (order, before) in ORDERS {
+            let [shown, rounds] = [show(&sheet, order), path::show(&sheet, order)].map(|shown| shown.unwrap().into_bytes());
+            assert_eq!(shown, example(&format!("{name}.{before}shown")), "{name}, {order:?}");
+            assert_eq!(rounds, example(&format!("{name}.{before}path")), "{name}, {order:?}");
+        }
+    }
+    assert_eq!(path::show(&example("k9.sheet"), Order::RisingFirst).unwrap().into_bytes(), example("k9.path"));
+}
+
+/// Which order takes fewer rounds stands in the second line, whichever is shown.
+#[test]
+fn the_orders_are_compared() {
+    for (sheet, said) in [
+        (example("example-6.sheet"), "Rising first takes fewer rounds: 4, against 6 falling first."),
+        (b"020200000001\n00010000\n00010001\n".to_vec(), "Falling first takes fewer rounds: 1, against 2 rising first."),
+        (example("floors.sheet"), "Rising first and falling first take equally many rounds: 4."),
+        (example("k5.sheet"), "Rising first and falling first take equally many rounds: 0."),
+    ] {
+        for (order, _) in ORDERS {
+            for shown in [show(&sheet, order), path::show(&sheet, order)] {
+                assert_eq!(shown.unwrap().lines().nth(1), Some(said));
+            }
+        }
     }
 }
 
 /// Two equal rounds have a row each, three are drawn together; a set has its runs of pans named from first to last.
 #[test]
 fn long_runs_are_drawn_together() {
-    let rows = |sheet: &str| path::show(sheet.as_bytes()).unwrap().lines().skip(5).map(String::from).collect::<Vec<_>>();
+    let shown = |sheet: &str| path::show(sheet.as_bytes(), Order::RisingFirst).unwrap();
+    let rows = |sheet: &str| shown(sheet).lines().skip(6).map(String::from).collect::<Vec<_>>();
     assert_eq!(
         rows("01020000\n0002\n0002\n"),
         ["     1  pan 1 up, 0 to 1          2 for 1      1", "     2  pan 1 up, 1 to 2          2 for 1      2"]
@@ -38,16 +59,18 @@ fn long_runs_are_drawn_together() {
     assert_eq!(three, ["1 to 3  pans 1-2, 4 down by 3          0 for 3      0      0      0      0"]);
 }
 
-/// Every example's rounds lead from its starting rents to its closing rents.
+/// Every example's rounds lead from its starting rents to its closing rents, in either order.
 #[test]
 fn the_rounds_lead_to_the_close() {
     for name in ["example-6", "k4", "k6", "k7", "k9"] {
-        let shown = path::show(&example(&format!("{name}.sheet"))).unwrap();
         let closing = String::from_utf8(example(&format!("{name}.closing"))).unwrap();
         let rents: Vec<u64> = closing.lines().nth(1).unwrap().as_bytes().chunks(4).map(hex).collect();
-        let last: Vec<u64> =
-            shown.lines().last().unwrap().split_whitespace().rev().take(rents.len()).map(|x| x.parse().unwrap()).collect();
-        assert!(last.iter().rev().eq(&rents), "{name}: {shown}");
+        for (order, _) in ORDERS {
+            let shown = path::show(&example(&format!("{name}.sheet")), order).unwrap();
+            let last = shown.lines().last().unwrap().split_whitespace().rev().take(rents.len());
+            let last: Vec<u64> = last.map(|x| x.parse().unwrap()).collect();
+            assert!(last.iter().rev().eq(&rents), "{name}: {shown}");
+        }
     }
 }
 
@@ -73,17 +96,19 @@ fn every_example_closes_as_it_says() {
     for name in ["example-6", "k4", "k5", "k6", "k7", "k8", "k9"] {
         let closing = dewgneiss::close_sheet(&example(&format!("{name}.sheet")));
         assert_eq!(closing, Ok(example(&format!("{name}.closing"))), "{name}");
-        assert!(show(&example(&format!("{name}.sheet"))).is_ok(), "{name}");
+        assert!(ORDERS.iter().all(|(order, _)| show(&example(&format!("{name}.sheet")), *order).is_ok()), "{name}");
     }
 }
 
 #[test]
 fn a_bad_sheet_is_not_shown() {
-    let said = show(b"0101").unwrap_err().to_string();
-    assert!(said.starts_with("turned down with 06: these bytes are not a bid sheet"), "{said}");
-    for shown in [show(b"01010000\n1000\n"), path::show(b"01010000\n1000\n")] {
-        let said = shown.unwrap_err().to_string();
-        assert!(said.starts_with("turned down with 05: a bid is above 4,095"), "{said}");
+    for (order, _) in ORDERS {
+        let said = show(b"0101", order).unwrap_err().to_string();
+        assert!(said.starts_with("turned down with 06: these bytes are not a bid sheet"), "{said}");
+        for shown in [show(b"01010000\n1000\n", order), path::show(b"01010000\n1000\n", order)] {
+            let said = shown.unwrap_err().to_string();
+            assert!(said.starts_with("turned down with 05: a bid is above 4,095"), "{said}");
+        }
     }
     assert_eq!(dewgneiss::reasons(b"2101").unwrap_err().number(), 1);
 }
@@ -147,9 +172,38 @@ fn the_longest_sheet() {
     assert_eq!(dewgneiss::LONGEST_SHEET, 5 + 4 * 32 + 64 * (4 * 32 + 1));
 }
 
-fn tool(verb: &str, input: &str) -> Output {
+fn tool(words: &[&str], input: &str) -> Output {
     let from = File::open(input).expect("an input");
-    Command::new(env!("CARGO_BIN_EXE_sheet-tool")).args([verb, "-"]).stdin(from).output().expect("the tool runs")
+    Command::new(env!("CARGO_BIN_EXE_sheet-tool")).args(words).stdin(from).output().expect("the tool runs")
+}
+
+/// The option stands before or after the file; there is no other, and `make` has none. What is misused ends with status 2.
+#[test]
+fn the_option_of_the_tool() {
+    let sheet = &format!("{}/../../examples/example-6.sheet", env!("CARGO_MANIFEST_DIR"));
+    for (verb, kind) in [("show", "falling-shown"), ("path", "falling-path")] {
+        for words in [[verb, "--falling", sheet], [verb, sheet, "--falling"], [verb, "--falling", "-"], [verb, "-", "--falling"]]
+        {
+            let done = tool(&words, sheet);
+            assert_eq!((done.status.code(), done.stdout), (Some(0), example(&format!("example-6.{kind}"))), "{words:?}");
+        }
+    }
+    for words in [
+        &["show", "--rising", sheet][..],
+        &["path", sheet, "-f"],
+        &["show", "--falling", "--rising", sheet],
+        &["show", "--falling"],
+        &["make", "--falling", sheet],
+        &["path", sheet, sheet],
+        &[],
+    ] {
+        let done = tool(words, "/dev/null");
+        let said = String::from_utf8_lossy(&done.stderr).into_owned();
+        assert!(
+            done.status.code() == Some(2) && said.starts_with("usage: sheet-tool show [--falling] SHEET"),
+            "{words:?}: {said}"
+        );
+    }
 }
 
 /// An input without end is not read to its end.
@@ -161,7 +215,7 @@ fn an_endless_input() {
         ("make", "/dev/zero", "-: line 1, column 1: this is more than a table of 32 pans and 64 rakers can be"),
         ("make", "/dev/null", "-: line 1, column 1: the table is empty"),
     ] {
-        let done = tool(verb, input);
+        let done = tool(&[verb, "-"], input);
         let words = String::from_utf8_lossy(&done.stderr).into_owned();
         assert!(done.status.code() == Some(1) && done.stdout.is_empty() && words.starts_with(said), "{verb} {input}: {words}");
     }
@@ -177,7 +231,7 @@ fn a_sheet_that_is_too_long() {
         (full.clone() + &full, "turned down with 06"),
         ("21".to_string() + &full, "turned down with 01"),
     ] {
-        assert!(show(sheet.as_bytes()).unwrap_err().to_string().starts_with(said));
+        assert!(show(sheet.as_bytes(), Order::RisingFirst).unwrap_err().to_string().starts_with(said));
     }
 }
 

@@ -1,9 +1,10 @@
-//! What `./run show`, `./run path` and `./run make` call: `sheet-tool show FILE`, and so on; `-` is standard input.
+//! What `./run show`, `./run path` and `./run make` call: `sheet-tool show FILE`, and so on; `-` is standard input. `show` and `path` take `--falling`, before or
+//! after the file.
 
-use dewgneiss::{csv, has_floors, path, table, NoTurn, LONGEST_SHEET_ABOVE};
+use dewgneiss::{csv, has_floors, path, table, NoTurn, Order, LONGEST_SHEET_ABOVE};
 use std::error::Error;
 use std::ffi::{OsStr, OsString};
-use std::fmt::Display;
+use std::fmt::{self, Display};
 use std::fs::File;
 use std::io::{Read, Write};
 use std::path::Path;
@@ -33,12 +34,30 @@ fn make(file: &OsStr) -> Result<String, Box<dyn Error>> {
     Ok(sheet)
 }
 
+/// The words are none that the tool has.
+#[derive(Debug)]
+struct Misused;
+
+impl Display for Misused {
+    fn fmt(&self, f: &mut fmt::Formatter<'_>) -> fmt::Result {
+        write!(f, "usage: sheet-tool show [--falling] SHEET | sheet-tool path [--falling] SHEET | sheet-tool make FILE.csv")
+    }
+}
+
+impl Error for Misused {}
+
 fn run(words: &[OsString]) -> Result<String, Box<dyn Error>> {
-    match words {
-        [verb, file] if verb == "show" => table::show(&start(file, LONGEST_SHEET_ABOVE)?),
-        [verb, file] if verb == "path" => path::show(&start(file, LONGEST_SHEET_ABOVE)?),
-        [verb, file] if verb == "make" => make(file),
-        _ => Err("usage: sheet-tool show SHEET | sheet-tool path SHEET | sheet-tool make FILE.csv".into()),
+    let is_option = |word: &&OsString| word.len() > 1 && word.as_encoded_bytes()[0] == b'-';
+    let (options, words): (Vec<&OsString>, Vec<&OsString>) = words.iter().partition(is_option);
+    if options.iter().any(|option| *option != "--falling") {
+        return Err(Misused.into());
+    }
+    let order = if options.is_empty() { Order::RisingFirst } else { Order::FallingFirst };
+    match words[..] {
+        [verb, file] if verb == "show" => table::show(&start(file, LONGEST_SHEET_ABOVE)?, order),
+        [verb, file] if verb == "path" => path::show(&start(file, LONGEST_SHEET_ABOVE)?, order),
+        [verb, file] if verb == "make" && options.is_empty() => make(file),
+        _ => Err(Misused.into()),
     }
 }
 
@@ -52,12 +71,12 @@ fn failed(error: &dyn Display, status: u8) -> ExitCode {
     ExitCode::from(status)
 }
 
-/// Ends with status 1 where the input is refused, and 2 where the answer is lost or does not fit the proved close.
+/// Ends with status 1 where the input is refused, and 2 where the tool is misused or the answer is lost or does not fit the proved close.
 fn main() -> ExitCode {
     let words: Vec<OsString> = std::env::args_os().skip(1).collect();
     let mut out = std::io::stdout();
     match run(&words) {
-        Err(error) if error.is::<NoTurn>() || error.is::<path::Astray>() => failed(&error, 2),
+        Err(error) if error.is::<NoTurn>() || error.is::<path::Astray>() || error.is::<Misused>() => failed(&error, 2),
         Err(error) => failed(&error, 1),
         Ok(text) => match out.write_all(text.as_bytes()).and_then(|()| out.flush()) {
             Err(error) => failed(&format!("the answer could not be written: {error}"), 2),
