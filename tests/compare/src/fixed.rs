@@ -1,9 +1,9 @@
-//! Document 01's "Lettings to try" through the wrapper, and lettings with floors.
+//! Document 01's "Lettings to try" through the wrapper, and lettings with floors; rising first and falling first.
 
-use crate::sheets::plain;
+use crate::sheets::{in_both_orders, plain};
 use crate::Tally;
-use dewgneiss::{close_sheet, sealed, sealed_above};
-use model::{cases, sheet, Closing};
+use dewgneiss::{close_sheet, falling_first, sealed, sealed_above};
+use model::{cases, sheet, Closing, Sheet};
 
 /// The number that turns a call down, or 0.
 pub fn number<T>(answer: &Result<T, dewgneiss::Refusal>) -> u8 {
@@ -12,12 +12,11 @@ pub fn number<T>(answer: &Result<T, dewgneiss::Refusal>) -> u8 {
 
 pub fn all() -> Tally {
     let mut tally = Tally::default();
-    for case in cases::table() {
+    for case in cases::table().into_iter().chain([cases::most_rounds()]) {
         let s = &case.sheet;
         let numbers = sealed(s.items as u32, s.bidders as u32, &s.start, &s.bids).map(plain);
         tally.expect(numbers.as_ref() == Ok(&case.closing), || format!("{}: {numbers:?}", case.name));
-        let above = sealed_above(s.items as u32, s.bidders as u32, &s.start, &s.floors, &s.bids).map(plain);
-        tally.expect(above.as_ref() == Ok(&case.closing), || format!("{} with floors of 0: {above:?}", case.name));
+        with_its_floors(s, [&case.closing, &case.falling_first], &mut tally);
         let bytes = close_sheet(&sheet::write(s));
         tally.expect(bytes == Ok(sheet::write_closing(&case.closing)), || format!("{} as a sheet: {bytes:?}", case.name));
     }
@@ -43,27 +42,38 @@ pub fn all() -> Tally {
     for counts in [u32::MAX, 1 << 31, 256 + 1, 65_536 + 1] {
         let given = [number(&sealed(counts, 1, &[0], &[0])), number(&sealed(1, counts, &[0], &[0]))];
         tally.expect(given == [1, 2], || format!("counts of {counts}: {given:?}"));
-        let given = [number(&sealed_above(counts, 1, &[0], &[0], &[0])), number(&sealed_above(1, counts, &[0], &[0], &[0]))];
-        tally.expect(given == [1, 2], || format!("counts of {counts}, with floors: {given:?}"));
+        for entry in [sealed_above, falling_first] {
+            let given = [number(&entry(counts, 1, &[0], &[0], &[0])), number(&entry(1, counts, &[0], &[0], &[0]))];
+            tally.expect(given == [1, 2], || format!("counts of {counts}, with floors: {given:?}"));
+        }
     }
     with_floors(&mut tally);
     tally
 }
 
+/// The sheet with its floors, rising first and falling first.
+fn with_its_floors(s: &Sheet, expected: [&Closing; 2], tally: &mut Tally) {
+    for (order, (given, expected)) in ["rising", "falling"].iter().zip(in_both_orders(s).iter().zip(expected)) {
+        tally.expect(given.as_ref() == Ok(expected), || format!("{s:?}, {order} first: {given:?}, not {expected:?}"));
+    }
+}
+
 /// Floors that stop a fall, that nobody meets, at which a bid is named, and by which another item is; the numbers with floors, several at once.
 fn with_floors(tally: &mut Tally) {
     for (start, floors, bids, rounds, prices, names) in [
-        (&[0, 5][..], &[0, 5][..], &[3, 7][..], (0, 0), &[0, 5][..], &[1][..]),
-        (&[8], &[5], &[3], (0, 3), &[5], &[0]),
-        (&[8], &[5], &[5], (0, 3), &[5], &[1]),
-        (&[5], &[5], &[9, 7], (2, 0), &[7], &[1, 0]),
-        (&[4095], &[4095], &[4095, 4095], (0, 0), &[4095], &[1, 0]),
-        (&[4095], &[1], &[0], (0, 4094), &[1], &[0]),
-        (&[4, 4, 10], &[3, 0, 8], &[2, 6, 0, 3, 7, 7, 6, 7, 0], (2, 2), &[3, 6, 8], &[0, 2, 1]),
+        (&[0, 5][..], &[0, 5][..], &[3, 7][..], [(0, 0), (0, 0)], &[0, 5][..], &[1][..]),
+        (&[8], &[5], &[3], [(0, 3), (0, 3)], &[5], &[0]),
+        (&[8], &[5], &[5], [(0, 3), (0, 3)], &[5], &[1]),
+        (&[5], &[5], &[9, 7], [(2, 0), (2, 0)], &[7], &[1, 0]),
+        (&[4095], &[4095], &[4095, 4095], [(0, 0), (0, 0)], &[4095], &[1, 0]),
+        (&[4095], &[1], &[0], [(0, 4094), (0, 4094)], &[1], &[0]),
+        (&[4, 4, 10], &[3, 0, 8], &[2, 6, 0, 3, 7, 7, 6, 7, 0], [(2, 2), (2, 2)], &[3, 6, 8], &[0, 2, 1]),
+        (&[4, 4], &[1, 0], &[2, 6, 3, 7, 6, 7], [(2, 2), (2, 3)], &[2, 6], &[0, 2, 1]),
     ] {
-        let expected = Closing { raised: rounds.0, lowered: rounds.1, prices: prices.to_vec(), names: names.to_vec() };
-        let given = sealed_above(start.len() as u32, names.len() as u32, start, floors, bids).map(plain);
-        tally.expect(given.as_ref() == Ok(&expected), || format!("{start:?} above {floors:?}, bids {bids:?}: {given:?}"));
+        let s = Sheet::of(start.to_vec(), names.len(), bids.to_vec()).above(floors);
+        let closing = |(raised, lowered)| Closing { raised, lowered, prices: prices.to_vec(), names: names.to_vec() };
+        let [rising, falling] = rounds.map(closing);
+        with_its_floors(&s, [&rising, &falling], tally);
     }
     for (items, bidders, start, floors, bids, wanted) in [
         (33, 65, &[4096][..], &[4097][..], &[4096][..], 1),
@@ -78,8 +88,8 @@ fn with_floors(tally: &mut Tally) {
         (2, 1, &[4095, 0], &[0, 1], &[0, 4096], 18),
         (1, 1, &[4095], &[4095], &[4096], 5),
     ] {
-        let given = number(&sealed_above(items, bidders, start, floors, bids));
+        let given = [sealed_above, falling_first].map(|entry| number(&entry(items, bidders, start, floors, bids)));
         let call = format!("{items} items, {bidders} bidders, {start:?} above {floors:?}, bids {bids:?}");
-        tally.expect(given == wanted, || format!("{call}: {given}, not {wanted}"));
+        tally.expect(given == [wanted; 2], || format!("{call}: {given:?} rising first and falling first, not {wanted}"));
     }
 }

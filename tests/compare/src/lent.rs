@@ -1,13 +1,13 @@
-//! The sealed auction on lent memory, without floors and with them: lengths that do not fit, amounts too high, floors too high, counts out of range, several at
+//! The sealed auction on lent memory, without floors, with them and falling first: lengths that do not fit, amounts too high, floors too high, counts out of range, several at
 //! once; after a refusal the lent memory is as it came.
 
 use crate::fixed::number;
 use crate::sheets::on_all_processors;
 use crate::Tally;
-use dewgneiss::{sealed_above_into, sealed_into};
+use dewgneiss::{falling_first_into, sealed_above_into, sealed_into};
 use model::generate::{self, too_high, Shape};
 use model::random::Random;
-use model::{flows, sealed_refusal, sealed_refusal_above, Sheet};
+use model::{flows, sealed_refusal, sealed_refusal_above, Sheet, FALLING_FIRST, RISING_FIRST};
 
 /// A length near the exact one, mostly exact.
 fn near(exact: usize, r: &mut Random) -> usize {
@@ -23,6 +23,29 @@ fn filled<T: Copy>(count: usize, mut value: impl FnMut() -> T) -> Vec<T> {
     (0..count).map(|_| value()).collect()
 }
 
+/// The entries that write a close into lent memory.
+#[derive(Clone, Copy, Debug, PartialEq, Eq)]
+pub enum Entry {
+    Sealed,
+    SealedAbove,
+    FallingFirst,
+}
+
+impl Entry {
+    fn has_floors(self) -> bool {
+        self != Entry::Sealed
+    }
+
+    /// The seed of its calls.
+    fn seed(self, seed: u64) -> u64 {
+        seed.wrapping_add(match self {
+            Entry::Sealed => 2,
+            Entry::SealedAbove => 7,
+            Entry::FallingFirst => 10,
+        })
+    }
+}
+
 /// The memory that is lent for the results.
 #[derive(Clone, Debug, PartialEq, Eq)]
 struct Lent {
@@ -31,10 +54,10 @@ struct Lent {
     names: Vec<u8>,
 }
 
-/// A call: counts, a sheet whose lists need not fit them, let with its floors or without, and what is lent.
+/// A call of an entry: counts, a sheet whose lists need not fit them, and what is lent.
 #[derive(Debug)]
 struct Call {
-    floors: bool,
+    entry: Entry,
     items: u32,
     bidders: u32,
     sheet: Sheet,
@@ -57,9 +80,9 @@ fn spoil_floors(s: &mut Sheet, r: &mut Random) {
     }
 }
 
-fn made(floors: bool, r: &mut Random) -> Call {
+fn made(entry: Entry, r: &mut Random) -> Call {
     let shape = *r.pick(&[Shape::Small, Shape::Ties, Shape::Ring]);
-    let mut s = if floors { generate::sheet_above(shape, r) } else { generate::sheet(shape, r) };
+    let mut s = if entry.has_floors() { generate::sheet_above(shape, r) } else { generate::sheet(shape, r) };
     let (mut items, mut bidders) = (s.items as u32, s.bidders as u32);
     if r.one_in(10) {
         items = *r.pick(&[0, 1, 32, 33, 257, 65_537, u32::MAX]);
@@ -75,7 +98,7 @@ fn made(floors: bool, r: &mut Random) -> Call {
         let at = r.within(0, s.bids.len() - 1);
         s.bids[at] = *r.pick(&[4096, 65_535]);
     }
-    if floors {
+    if entry.has_floors() {
         spoil_floors(&mut s, r);
     }
     if r.one_in(8) {
@@ -87,7 +110,7 @@ fn made(floors: bool, r: &mut Random) -> Call {
     let rounds = filled(if r.one_in(4) { near(2, r) } else { 2 }, || r.draw() as u32);
     let prices = filled(if r.one_in(4) { near(s.items, r) } else { items.min(40) as usize }, || r.draw() as u16);
     let names = filled(if r.one_in(4) { near(s.bidders, r) } else { bidders.min(70) as usize }, || r.draw() as u8);
-    Call { floors, items, bidders, sheet: s, lent: Lent { rounds, prices, names } }
+    Call { entry, items, bidders, sheet: s, lent: Lent { rounds, prices, names } }
 }
 
 impl Call {
@@ -95,7 +118,7 @@ impl Call {
     fn number(&self) -> u8 {
         let Call { items, bidders, ref sheet, ref lent, .. } = *self;
         let fits = [lent.rounds.len(), lent.prices.len(), lent.names.len()] == [2, items as usize, bidders as usize];
-        let refusal = if self.floors {
+        let refusal = if self.entry.has_floors() {
             sealed_refusal_above(items, bidders, &sheet.start, &sheet.floors, &sheet.bids)
         } else {
             sealed_refusal(items, bidders, &sheet.start, &sheet.bids)
@@ -112,7 +135,9 @@ impl Call {
         if self.number() != 0 {
             return self.lent.clone();
         }
-        let c = flows::close(&Sheet { items: self.items as usize, bidders: self.bidders as usize, ..self.sheet.clone() });
+        let order = if self.entry == Entry::FallingFirst { FALLING_FIRST } else { RISING_FIRST };
+        let sheet = Sheet { items: self.items as usize, bidders: self.bidders as usize, ..self.sheet.clone() };
+        let c = flows::close_in(&sheet, order);
         Lent { rounds: vec![c.raised, c.lowered], prices: c.prices, names: c.names }
     }
 
@@ -121,28 +146,23 @@ impl Call {
         let Call { items, bidders, sheet: ref s, .. } = *self;
         let mut after = self.lent.clone();
         let Lent { rounds, prices, names } = &mut after;
-        let answer = if self.floors {
-            sealed_above_into(items, bidders, &s.start, &s.floors, &s.bids, rounds, prices, names)
-        } else {
-            sealed_into(items, bidders, &s.start, &s.bids, rounds, prices, names)
+        let answer = match self.entry {
+            Entry::Sealed => sealed_into(items, bidders, &s.start, &s.bids, rounds, prices, names),
+            Entry::SealedAbove => sealed_above_into(items, bidders, &s.start, &s.floors, &s.bids, rounds, prices, names),
+            Entry::FallingFirst => falling_first_into(items, bidders, &s.start, &s.floors, &s.bids, rounds, prices, names),
         };
         (number(&answer), after)
     }
 }
 
-fn one(floors: bool, k: u64, r: &mut Random, tally: &mut Tally) {
-    let call = made(floors, r);
+fn one(entry: Entry, k: u64, r: &mut Random, tally: &mut Tally) {
+    let call = made(entry, r);
     let (expected, given) = ((call.number(), call.after()), call.given());
     tally.expect(given == expected, || format!("lent {k}: {call:?}\nexpected {expected:?}, given {given:?}"));
 }
 
-pub fn all(count: u64, seed: u64) -> Tally {
-    on_all_processors(count, seed.wrapping_add(2), |k, r, tally| one(false, k, r, tally))
-}
-
-/// The same with floors.
-pub fn above(count: u64, seed: u64) -> Tally {
-    on_all_processors(count, seed.wrapping_add(7), |k, r, tally| one(true, k, r, tally))
+pub fn all(entry: Entry, count: u64, seed: u64) -> Tally {
+    on_all_processors(count, entry.seed(seed), |k, r, tally| one(entry, k, r, tally))
 }
 
 #[cfg(test)]
@@ -152,24 +172,32 @@ mod tests {
     use crate::{SEED, SHEETS};
     use model::{below_floor, TOP};
 
-    /// The calls with floors of the run in which nothing else is said are accepted or get every number, also where 18 stands beside 4 or 5.
+    /// The calls with floors of the run in which nothing else is said, rising first and falling first, are accepted or get every number, also where 18 stands
+    /// beside 4 or 5. Some of those that are accepted have falls as well as rises.
     #[test]
     fn the_calls_with_floors_reach_every_number() {
-        let calls: Vec<Call> = (0..SHEETS / 6).map(|k| made(true, &mut random(SEED.wrapping_add(7), k))).collect();
-        let under = |c: &Call| below_floor(&c.sheet.start, &c.sheet.floors);
-        let times = |number: u8, which: &dyn Fn(&Call) -> bool| calls.iter().filter(|c| c.number() == number && which(c)).count();
-        for number in [0, 1, 2, 3, 4, 18, 5] {
-            assert!(times(number, &|_| true) >= 100, "only {} get {number}", times(number, &|_| true));
-        }
-        let bids_too_high = |c: &Call| c.sheet.bids.iter().any(|&bid| bid > TOP);
-        let lengths = |c: &Call| c.sheet.floors.len() != c.items as usize && c.sheet.start.len() == c.items as usize;
-        for (what, count) in [
-            ("4 before 18", times(4, &under)),
-            ("18 before 5", times(18, &bids_too_high)),
-            ("3 for floors alone", times(3, &lengths)),
-            ("18 for a starting price alone", times(18, &|c| c.sheet.floors.iter().all(|&floor| floor <= TOP))),
-        ] {
-            assert!(count >= 40, "only {count} times {what}");
+        for entry in [Entry::SealedAbove, Entry::FallingFirst] {
+            let calls: Vec<Call> = (0..SHEETS / 6).map(|k| made(entry, &mut random(entry.seed(SEED), k))).collect();
+            let under = |c: &Call| below_floor(&c.sheet.start, &c.sheet.floors);
+            let times =
+                |number: u8, which: &dyn Fn(&Call) -> bool| calls.iter().filter(|c| c.number() == number && which(c)).count();
+            for number in [0, 1, 2, 3, 4, 18, 5] {
+                assert!(times(number, &|_| true) >= 100, "{entry:?}: only {} get {number}", times(number, &|_| true));
+            }
+            let bids_too_high = |c: &Call| c.sheet.bids.iter().any(|&bid| bid > TOP);
+            let lengths = |c: &Call| c.sheet.floors.len() != c.items as usize && c.sheet.start.len() == c.items as usize;
+            let lent =
+                |c: &Call| sealed_refusal_above(c.items, c.bidders, &c.sheet.start, &c.sheet.floors, &c.sheet.bids).is_none();
+            for (what, count) in [
+                ("4 before 18", times(4, &under)),
+                ("18 before 5", times(18, &bids_too_high)),
+                ("3 for floors alone", times(3, &lengths)),
+                ("3 for what is lent alone", times(3, &lent)),
+                ("18 for a starting price alone", times(18, &|c| c.sheet.floors.iter().all(|&floor| floor <= TOP))),
+                ("both falls and rises", times(0, &|c| !c.after().rounds.contains(&0))),
+            ] {
+                assert!(count >= 40, "{entry:?}: only {count} times {what}");
+            }
         }
     }
 }

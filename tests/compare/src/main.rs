@@ -11,6 +11,8 @@ mod program;
 mod reasons;
 mod sheets;
 
+use lent::Entry;
+
 /// What was compared, and what differed.
 #[derive(Default)]
 pub struct Tally {
@@ -45,7 +47,8 @@ fn stage(total: &mut Tally, name: &str, run: impl FnOnce() -> Tally) {
     total.add(tally);
 }
 
-/// How many sheets and lists without floors where nothing is said, and from which seed. There are half as many with floors beside them.
+/// How many sheets and lists without floors where nothing is said, and from which seed. Beside them there are half as many with floors, and 10,000 sheets
+/// falling first.
 const SHEETS: u64 = 24_000;
 const LISTS: u64 = 4_000;
 const SEED: u64 = 20_250_101;
@@ -67,9 +70,11 @@ fn main() {
     stage(&mut total, "document 01's lettings", fixed::all);
     stage(&mut total, "sheets within the limits, through the wrapper", || sheets::accepted(count * 2 / 3, seed));
     stage(&mut total, "damaged sheets, through the wrapper", || sheets::damaged(count / 3, seed));
-    stage(&mut total, "lent memory, through the wrapper", || lent::all(count / 12, seed));
+    stage(&mut total, "lent memory, through the wrapper", || lent::all(Entry::Sealed, count / 12, seed));
     stage(&mut total, "sheets with floors, through the wrapper", || floors::accepted(count / 3, seed));
-    stage(&mut total, "lent memory with floors, through the wrapper", || lent::above(count / 6, seed));
+    stage(&mut total, "lent memory with floors, through the wrapper", || lent::all(Entry::SealedAbove, count / 6, seed));
+    stage(&mut total, "sheets with floors falling first, through the wrapper", || floors::falling(count / 4, seed));
+    stage(&mut total, "lent memory falling first, through the wrapper", || lent::all(Entry::FallingFirst, count / 6, seed));
     stage(&mut total, "sheets of reasons, through the wrapper", || reasons::all(count / 5, seed));
     stage(&mut total, "the programs closing_sheet and reason_sheet", || program::sheets(count / 60, seed));
     stage(&mut total, "live lists, through the program live_console", || lists::all(lists, seed));

@@ -5,7 +5,7 @@ use crate::Tally;
 use model::cases;
 use model::generate::{self, Damage, Shape, DAMAGES, SHAPES};
 use model::random::Random;
-use model::{reasons, sheet, Sheet, TOP};
+use model::{reasons, sheet, Sheet};
 use std::io::Write;
 use std::path::PathBuf;
 use std::process::{Command, Stdio};
@@ -45,13 +45,10 @@ fn compare(what: &str, bytes: &[u8], tally: &mut Tally) {
 /// The inputs at the edge of what a sheet can be.
 fn edges(tally: &mut Tally) {
     let full = sheet::write(&Sheet::of(vec![0; 32], 64, vec![1; 32 * 64]));
-    // 8,190 rounds: everybody wants the first half, from 0, and nobody the second half, from 4,095.
-    let line: Vec<u16> = (0..32).map(|i| if i < 16 { TOP } else { 0 }).collect();
-    let longest = Sheet::of(line.iter().map(|&x| TOP - x).collect(), 64, line.repeat(64));
     for (what, bytes) in [
         ("nothing", Vec::new()),
         ("the longest sheet", full.clone()),
-        ("the most rounds", sheet::write(&longest)),
+        ("the most rounds", sheet::write(&cases::most_rounds().sheet)),
         ("one byte past the longest sheet", [&full[..], b"\n"].concat()),
         ("the longest sheet less a byte", full[..full.len() - 1].to_vec()),
         ("a sheet as long as a buffer", vec![b'0'; 65_536]),

@@ -2,15 +2,20 @@
 
 use crate::fixed::number;
 use crate::Tally;
-use dewgneiss::{close_sheet, close_sheet_into, sealed, sealed_above, turn};
+use dewgneiss::{close_sheet, close_sheet_into, falling_first, sealed, sealed_above, turn};
 use model::generate::{self, Shape, DAMAGES, SHAPES};
 use model::random::Random;
-use model::{flows, literal, sheet, totals, Closing};
+use model::{flows, literal, sheet, totals, Closing, Order, Round, Sheet, RISING_FIRST};
 use std::thread;
 
 /// The wrapper's closing as the second program's.
 pub fn plain(c: dewgneiss::Closing) -> Closing {
     Closing { raised: c.raised, lowered: c.lowered, prices: c.prices, names: c.names }
+}
+
+/// The wrapper's closings of a sheet with its floors, rising first and falling first.
+pub fn in_both_orders(s: &Sheet) -> [Result<Closing, dewgneiss::Refusal>; 2] {
+    [sealed_above, falling_first].map(|entry| entry(s.items as u32, s.bidders as u32, &s.start, &s.floors, &s.bids).map(plain))
 }
 
 /// What the k-th thing of a seed is made from.
@@ -36,35 +41,61 @@ pub fn on_all_processors(count: u64, seed: u64, one: impl Fn(u64, &mut Random, &
     })
 }
 
+/// What the second program makes of a sheet: the rounds in this order, the prices at the turn and the closing; and whether its methods are of one mind, by the
+/// letter where that ends, and by totals for a sample.
+pub struct Second {
+    pub path: Vec<Round>,
+    pub turn: Vec<u16>,
+    pub closing: Closing,
+    by_letter: bool,
+    by_totals: bool,
+}
+
+impl Second {
+    pub fn of(s: &Sheet, order: Order, shape: Shape, k: u64) -> Second {
+        let path = flows::path_in(s, order);
+        let turn = flows::turn_in(s, order, &path);
+        let closing = flows::close_after(s, &path);
+        let by_letter = shape != Shape::Small || literal::close_in(s, order) == closing;
+        // A step that shares no factor with those by which shapes and floors are chosen, for a sample of all of them.
+        let by_totals = k % 97 != 1 || totals::turn_and_close(s, order) == (turn.clone(), closing.prices.clone());
+        Second { path, turn, closing, by_letter, by_totals }
+    }
+
+    pub fn of_one_mind(&self) -> bool {
+        self.by_letter && self.by_totals
+    }
+
+    /// What is expected, to be printed.
+    pub fn text(&self) -> String {
+        let Second { turn, closing, by_letter, by_totals, .. } = self;
+        format!("expected {closing:?}, turn {turn:?} (by the letter {by_letter}, by totals {by_totals})")
+    }
+}
+
 fn one_accepted(k: u64, r: &mut Random, tally: &mut Tally) {
     let shape = match k % 40 {
         0 => Shape::Long,
         k => SHAPES[k as usize % (SHAPES.len() - 1)],
     };
     let s = generate::sheet(shape, r);
-    let path = flows::path(&s);
-    let expected = flows::close_after(&s, &path);
-    let at_turn = flows::turn(&s, &path);
-    // The second program is of one mind: by the letter where that ends, and by totals for a sample.
-    let by_letter = shape != Shape::Small || literal::close(&s) == expected;
-    let by_totals = k % 100 != 1 || totals::turn_and_close(&s) == (at_turn.clone(), expected.prices.clone());
+    let second = Second::of(&s, RISING_FIRST, shape, k);
     let numbers = sealed(s.items as u32, s.bidders as u32, &s.start, &s.bids);
     let bytes = close_sheet(&sheet::write(&s));
     // The wrapper's turn takes two more runs: every fourth sheet.
     let turned = match &numbers {
         Ok(closing) if k % 4 == 0 => turn(&s.start, &s.bids, closing),
-        _ => Ok(at_turn.clone()),
+        _ => Ok(second.turn.clone()),
     };
     // Floors of 0 are none.
     let above = k % 4 != 1 || sealed_above(s.items as u32, s.bidders as u32, &s.start, &s.floors, &s.bids) == numbers;
-    let same = numbers.clone().map(plain).as_ref() == Ok(&expected)
+    let same = numbers.clone().map(plain).as_ref() == Ok(&second.closing)
         && above
-        && bytes == Ok(sheet::write_closing(&expected))
-        && turned.as_ref() == Ok(&at_turn);
-    tally.expect(by_letter && by_totals && same, || {
-        let text = String::from_utf8_lossy(&sheet::write(&s)).into_owned();
-        let ways = format!("by the letter {by_letter}, by totals {by_totals}");
-        format!("sheet {k} ({shape:?}):\n{text}expected {expected:?}, turn {at_turn:?} ({ways})\nnumbers {numbers:?}, with floors of 0 {above}, turn {turned:?}\nbytes {bytes:?}")
+        && bytes == Ok(sheet::write_closing(&second.closing))
+        && turned.as_ref() == Ok(&second.turn);
+    tally.expect(second.of_one_mind() && same, || {
+        let (text, expected) = (String::from_utf8_lossy(&sheet::write(&s)).into_owned(), second.text());
+        format!("sheet {k} ({shape:?}):\n{text}{expected}\nnumbers {numbers:?}, with floors of 0 {above}, turn {turned:?}\nbytes {bytes:?}")
     });
 }
 

@@ -1,7 +1,7 @@
 //! The rule for sheets of any size: a maximum matching in phases of shortest paths, the sets by its alternating closure, and
 //! the first assignment by flows with lower bounds. Item sets are u32, bit i − 1 for item i.
 
-use crate::{Closing, Kind, Round, Sheet};
+use crate::{Closing, Kind, Order, Round, Sheet, RISING_FIRST};
 use std::collections::VecDeque;
 
 /// What a bidder demands: the items of the highest surplus that are bid for, and null if that surplus is 0.
@@ -158,11 +158,16 @@ pub fn moved(prices: &[u16], set: u32, kind: Kind) -> Vec<u16> {
     next
 }
 
-/// The rounds of a sheet, up to its close.
+/// The rounds of a sheet, up to its close, rising first.
 pub fn path(sheet: &Sheet) -> Vec<Round> {
+    path_in(sheet, RISING_FIRST)
+}
+
+/// The same in either order.
+pub fn path_in(sheet: &Sheet, order: Order) -> Vec<Round> {
     let mut rounds = Vec::new();
     let mut prices = sheet.start.clone();
-    let mut kind = Kind::Raised;
+    let [mut kind, last] = order;
     loop {
         let demands = demands(sheet, &prices);
         let set = match kind {
@@ -172,8 +177,8 @@ pub fn path(sheet: &Sheet) -> Vec<Round> {
         if set != 0 {
             prices = moved(&prices, set, kind);
             rounds.push(Round { kind, items: set, prices: prices.clone() });
-        } else if kind == Kind::Raised {
-            kind = Kind::Lowered;
+        } else if kind != last {
+            kind = last;
         } else {
             return rounds;
         }
@@ -282,9 +287,14 @@ pub fn first_assignment(demands: &[Demand], must: u32) -> Option<Vec<u8>> {
     Some(names)
 }
 
-/// The sealed auction of a sheet within the limits.
+/// The sealed auction of a sheet within the limits, rising first.
 pub fn close(sheet: &Sheet) -> Closing {
-    close_after(sheet, &path(sheet))
+    close_in(sheet, RISING_FIRST)
+}
+
+/// The same in either order.
+pub fn close_in(sheet: &Sheet, order: Order) -> Closing {
+    close_after(sheet, &path_in(sheet, order))
 }
 
 /// The close after the sheet's rounds.
@@ -296,7 +306,12 @@ pub fn close_after(sheet: &Sheet, path: &[Round]) -> Closing {
     Closing { raised: raised as u32, lowered: (path.len() - raised) as u32, prices, names }
 }
 
-/// The prices at the turn of the sheet's rounds.
+/// The prices at the turn of the sheet's rounds, rising first.
 pub fn turn(sheet: &Sheet, path: &[Round]) -> Vec<u16> {
-    path.iter().rev().find(|r| r.kind == Kind::Raised).map_or(sheet.start.clone(), |r| r.prices.clone())
+    turn_in(sheet, RISING_FIRST, path)
+}
+
+/// The same where the rounds are in this order.
+pub fn turn_in(sheet: &Sheet, order: Order, path: &[Round]) -> Vec<u16> {
+    path.iter().rev().find(|r| r.kind == order[0]).map_or(sheet.start.clone(), |r| r.prices.clone())
 }

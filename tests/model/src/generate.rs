@@ -134,6 +134,15 @@ pub fn sheet_above(shape: Shape, r: &mut Random) -> Sheet {
     floored(sheet(shape, r), kind, r)
 }
 
+/// The sheet with its starting prices, or about half of them, well above. Falling first has many falls there, and rises after them where other starting
+/// prices stay low.
+pub fn started_high(sheet: Sheet, r: &mut Random) -> Sheet {
+    let half = sheet.bids.iter().copied().max().unwrap_or(0).clamp(2, 60) / 2;
+    let all = r.one_in(3);
+    let up = |&price: &u16| if all || r.one_in(2) { (price + half + r.amount(half)).min(TOP) } else { price };
+    Sheet { start: sheet.start.iter().map(up).collect(), ..sheet }
+}
+
 /// The kinds of damage to a bid sheet's bytes.
 #[derive(Clone, Copy, Debug, PartialEq, Eq)]
 pub enum Damage {

@@ -4,6 +4,9 @@
 //! - [`flows`] takes the sets from a maximum matching and its alternating closure, and the first assignment from flows
 //!   with lower bounds. For sheets of any size.
 //! - [`totals`] plays no round at all: it takes turn and close from best totals, as least equilibrium prices.
+//!
+//! Each has both orders of the rounds, rising first and falling first ([`Order`]). The live auction is rising first.
+//!
 //! - [`reasons`] prints the sheet of reasons of document 02.
 //! - [`sheet`] reads bid sheets and writes closing sheets; [`live`] is the live auction, [`machine`] the plain machine
 //!   that a live list is held to, [`console`] the lines of the console program.
@@ -70,6 +73,15 @@ pub enum Kind {
     Lowered,
 }
 
+/// The order of the two kinds of rounds: those of the first until its set is empty, which is the turn, then those of the second until its set is.
+pub type Order = [Kind; 2];
+
+/// Document 01's order.
+pub const RISING_FIRST: Order = [Kind::Raised, Kind::Lowered];
+/// Document 02's, #104.
+pub const FALLING_FIRST: Order = [Kind::Lowered, Kind::Raised];
+pub const ORDERS: [Order; 2] = [RISING_FIRST, FALLING_FIRST];
+
 /// A round of a path: its kind, its items (bit i − 1 for item i) and the prices after it.
 #[derive(Clone, Debug, PartialEq, Eq)]
 pub struct Round {
@@ -97,7 +109,7 @@ pub fn sealed_refusal(items: u32, bidders: u32, start: &[u16], bids: &[u16]) -> 
     sealed_refusal_above(items, bidders, start, &vec![0; start.len()], bids)
 }
 
-/// The same with floors: 1, 2, 3, 4, 18, 5.
+/// The same with floors, in either order of the rounds: 1, 2, 3, 4, 18, 5.
 pub fn sealed_refusal_above(items: u32, bidders: u32, start: &[u16], floors: &[u16], bids: &[u16]) -> Option<u8> {
     if !(1..=ITEMS as u32).contains(&items) {
         return Some(1);

@@ -1,7 +1,7 @@
 //! Document 01's rule to the letter, with document 02's words on zeros and floors. Options are bits: bit 0 is null, bit i is item i. Every set is tried, and every part of it,
 //! so this is for a handful of items and bidders.
 
-use crate::{Closing, Kind, Round, Sheet};
+use crate::{Closing, Kind, Order, Round, Sheet, RISING_FIRST};
 
 /// A set of options: bit 0 for null, bit i for item i.
 pub type Options = u64;
@@ -89,14 +89,14 @@ fn moved(prices: &[u16], set: Options, by: i32) -> Vec<u16> {
 
 /// Rising first; the turn is when the rising set is first empty; from then on falling, until that set is empty.
 pub fn path(sheet: &Sheet) -> Vec<Round> {
-    path_by(sheet, demand)
+    path_by(sheet, RISING_FIRST, demand)
 }
 
-/// The same by any demand.
-pub fn path_by(sheet: &Sheet, demand: Demand) -> Vec<Round> {
+/// The same in either order and by any demand. Falling first the turn is when the falling set is first empty, and the rises come after it.
+pub fn path_by(sheet: &Sheet, order: Order, demand: Demand) -> Vec<Round> {
     let mut rounds = Vec::new();
     let mut prices = sheet.start.clone();
-    for kind in [Kind::Raised, Kind::Lowered] {
+    for kind in order {
         loop {
             let demands = demands(sheet, &prices, demand);
             let (set, by) = match kind {
@@ -137,9 +137,14 @@ pub fn first_assignment(count: usize, demands: &[Options], must: Options) -> Opt
     complete(count, demands, must, &mut given).then_some(given)
 }
 
-/// The sealed auction of a sheet within the limits.
+/// The sealed auction of a sheet within the limits, rising first.
 pub fn close(sheet: &Sheet) -> Closing {
-    let path = path(sheet);
+    close_in(sheet, RISING_FIRST)
+}
+
+/// The same in either order.
+pub fn close_in(sheet: &Sheet, order: Order) -> Closing {
+    let path = path_by(sheet, order, demand);
     let prices = path.last().map_or(sheet.start.clone(), |r| r.prices.clone());
     let demands = demands(sheet, &prices, demand);
     let must = above(&sheet.floors, &prices);

@@ -1,9 +1,9 @@
 //! Turn and close without a round: both are least equilibrium prices, one from the starting prices and one from the floors, and how
 //! far such a price stands above them is what the best total of bids less them would gain from one more copy of the item (source
-//! document 000's prices are those of Vickrey). Counts of rounds are then the largest rise and the largest fall. Best totals come from
-//! the Hungarian method with potentials.
+//! document 000's prices are those of Vickrey). Falling first's turn is the close of other bids. Counts of rounds are then the largest
+//! rise and the largest fall. Best totals come from the Hungarian method with potentials.
 
-use crate::Sheet;
+use crate::{Kind, Order, Sheet};
 
 /// The best total over assignments of bidders to columns or to null (worth 0); `worth[b][c]` may be below 0.
 pub fn best_total(worth: &[Vec<i32>]) -> i32 {
@@ -66,20 +66,35 @@ fn bids_less(sheet: &Sheet, prices: &[u16]) -> Vec<Vec<i32>> {
     sheet.bids.chunks(sheet.items).map(line).collect()
 }
 
-/// The least equilibrium prices at or above the given ones.
-fn least_from(sheet: &Sheet, low: &[u16]) -> Vec<u16> {
-    least_prices(&bids_less(sheet, low)).iter().zip(low).map(|(&up, &low)| low + up as u16).collect()
+/// These prices raised to the least equilibrium prices at or above them; the worths are bids less these prices.
+fn least_from(low: &[u16], worth: &[Vec<i32>]) -> Vec<u16> {
+    least_prices(worth).iter().zip(low).map(|(&up, &low)| low + up as u16).collect()
+}
+
+/// The bids less the floors, and less what their bidder would gain at the starting prices. By such bids everybody demands null at the start, so no price
+/// rises from there; and from the start down everybody demands the same items above their floors as by their own bids, so the falls are the same. What
+/// they close at is falling first's turn.
+fn without_gains(sheet: &Sheet) -> Vec<Vec<i32>> {
+    let without = |(line, at_start): (Vec<i32>, Vec<i32>)| {
+        let gain = at_start.into_iter().fold(0, i32::max);
+        line.iter().map(|worth| worth - gain).collect()
+    };
+    bids_less(sheet, &sheet.floors).into_iter().zip(bids_less(sheet, &sheet.start)).map(without).collect()
 }
 
 /// The prices at the turn and at the close.
-pub fn turn_and_close(sheet: &Sheet) -> (Vec<u16>, Vec<u16>) {
-    (least_from(sheet, &sheet.start), least_from(sheet, &sheet.floors))
+pub fn turn_and_close(sheet: &Sheet, order: Order) -> (Vec<u16>, Vec<u16>) {
+    let turn = match order[0] {
+        Kind::Raised => least_from(&sheet.start, &bids_less(sheet, &sheet.start)),
+        Kind::Lowered => least_from(&sheet.floors, &without_gains(sheet)),
+    };
+    (turn, least_from(&sheet.floors, &bids_less(sheet, &sheet.floors)))
 }
 
-/// Rounds raised and lowered: the largest rise and the largest fall.
+/// Rounds raised and lowered in either order: the largest rise and the largest fall to the turn or from there. A fall is a rise on the way back.
 pub fn rounds(sheet: &Sheet, turn: &[u16], close: &[u16]) -> (u32, u32) {
-    let largest = |high: &[u16], low: &[u16]| high.iter().zip(low).map(|(&h, &l)| (h - l) as u32).max().unwrap_or(0);
-    (largest(turn, &sheet.start), largest(turn, close))
+    let rise = |from: &[u16], to: &[u16]| from.iter().zip(to).map(|(&a, &b)| b.saturating_sub(a).into()).max().unwrap_or(0);
+    (rise(&sheet.start, turn).max(rise(turn, close)), rise(turn, &sheet.start).max(rise(close, turn)))
 }
 
 /// The total of an assignment: its bids less the floors.

@@ -1,16 +1,24 @@
 //! Document 01's "Lettings to try", by every method of the second program.
 
-use model::cases::table;
+use model::cases::{most_rounds, table};
 use model::flows::{self, Demand};
 use model::live::{Answer, Call, Record};
-use model::{literal, sheet, Kind};
+use model::{literal, sheet, Kind, ORDERS};
 
 #[test]
 fn the_table() {
     for case in table() {
-        assert_eq!(literal::close(&case.sheet), case.closing, "{}", case.name);
-        assert_eq!(flows::close(&case.sheet), case.closing, "{}", case.name);
+        for (order, closing) in ORDERS.iter().zip([&case.closing, &case.falling_first]) {
+            assert_eq!(literal::close_in(&case.sheet, *order), *closing, "{} in the order {order:?}", case.name);
+            assert_eq!(flows::close_in(&case.sheet, *order), *closing, "{} in the order {order:?}", case.name);
+        }
     }
+}
+
+#[test]
+fn the_most_rounds() {
+    let case = most_rounds();
+    assert_eq!(ORDERS.map(|order| flows::close_in(&case.sheet, order)), [case.closing, case.falling_first]);
 }
 
 #[test]

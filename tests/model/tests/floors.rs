@@ -1,47 +1,18 @@
 //! Document 02, #103: floors. What is claimed of the close is tried on small sheets with every price vector and every assignment.
 
+mod small;
+
 use model::cases::table;
 use model::generate::{calls, floored, live_sheet, sheet, sheet_above, Reporting, Shape, FLOORS, SHAPES};
-use model::literal::{above, close, demand, demands, falling, first_assignment, path, rising};
+use model::literal::{above, close, demand, demands, first_assignment, path};
 use model::random::Random;
 use model::reasons::along;
 use model::{flows, live::Record, sealed_refusal, sealed_refusal_above, totals, Closing, Kind, Round, Sheet};
-
-/// A sheet of at most 3 by 4 with low amounts, and floors of every kind.
-fn small(k: usize, r: &mut Random) -> Sheet {
-    let (items, bidders, top) = (r.within(1, 3), r.within(1, 4), r.within(1, 4) as u16);
-    let start = (0..items).map(|_| r.amount(top)).collect();
-    let bids = (0..items * bidders).map(|_| r.amount(top)).collect();
-    floored(Sheet::of(start, bidders, bids), FLOORS[k % FLOORS.len()], r)
-}
-
-/// Such sheets, from a seed.
-fn small_sheets(seed: u64, count: usize) -> impl Iterator<Item = Sheet> {
-    let mut r = Random::new(seed);
-    (0..count).map(move |k| small(k, &mut r))
-}
-
-/// Every price vector up to one above the highest bid and starting price.
-fn vectors(s: &Sheet) -> impl Iterator<Item = Vec<u16>> + '_ {
-    let each = u32::from(s.bids.iter().chain(&s.start).max().map_or(1, |&top| top + 2));
-    let digit = move |k: u32, i: usize| (k / each.pow(i as u32) % each) as u16;
-    (0..each.pow(s.items as u32)).map(move |k| (0..s.items).map(|i| digit(k, i)).collect())
-}
-
-/// Whether no price of the first is above that of the second.
-fn below(low: &[u16], high: &[u16]) -> bool {
-    low.iter().zip(high).all(|(l, h)| l <= h)
-}
+use small::{below, sets, small_sheets, vectors};
 
 /// Whether these prices balance: in some assignment everybody has something of their demand, and every item that nobody has stands at its floor.
 fn balance(s: &Sheet, prices: &[u16]) -> bool {
     first_assignment(s.items, &demands(s, prices, demand), above(&s.floors, prices)).is_some()
-}
-
-/// Both sets at these prices.
-fn sets(s: &Sheet, prices: &[u16]) -> (u64, u64) {
-    let demands = demands(s, prices, demand);
-    (rising(s.items, &demands), falling(&s.floors, prices, &demands))
 }
 
 /// Of all prices at or above the floors the closing prices balance and are the least that do, and they alone leave both sets empty.

@@ -4,7 +4,7 @@ use model::flows::{self, Demand};
 use model::generate::{sheet, sheet_above, Shape, SHAPES};
 use model::literal::{self, Options};
 use model::random::Random;
-use model::{totals, Sheet};
+use model::{totals, Sheet, ORDERS};
 
 /// The options of a demand, as the literal rule has them.
 fn options(d: &Demand) -> Options {
@@ -66,21 +66,25 @@ fn small_sheets_by_the_letter_and_by_closure() {
     let mut r = Random::new(4);
     for _ in 0..4_000 {
         for s in [sheet(Shape::Small, &mut r), sheet_above(Shape::Small, &mut r)] {
-            assert_eq!(literal::path(&s), flows::path(&s), "{s:?}");
-            assert_eq!(literal::close(&s), flows::close(&s), "{s:?}");
+            for order in ORDERS {
+                assert_eq!(literal::path_by(&s, order, literal::demand), flows::path_in(&s, order), "{s:?}");
+                assert_eq!(literal::close_in(&s, order), flows::close_in(&s, order), "{s:?}");
+            }
         }
     }
 }
 
-/// Turn and close without rounds; the counts as largest rise and fall; the total of bids less floors that nothing beats.
+/// In both orders turn and close without rounds; the counts as largest rise and fall; the total of bids less floors that nothing beats.
 fn holds_totals(s: &Sheet) {
-    let path = flows::path(s);
-    let closing = flows::close_after(s, &path);
-    let (turn, close) = totals::turn_and_close(s);
-    assert_eq!(turn, flows::turn(s, &path), "{s:?}");
-    assert_eq!(close, closing.prices, "{s:?}");
-    assert_eq!(totals::rounds(s, &turn, &close), (closing.raised, closing.lowered), "{s:?}");
-    assert_eq!(totals::total(s, &closing.names), totals::best(s), "{s:?}");
+    for order in ORDERS {
+        let path = flows::path_in(s, order);
+        let closing = flows::close_after(s, &path);
+        let (turn, close) = totals::turn_and_close(s, order);
+        assert_eq!(turn, flows::turn_in(s, order, &path), "{s:?}");
+        assert_eq!(close, closing.prices, "{s:?}");
+        assert_eq!(totals::rounds(s, &turn, &close), (closing.raised, closing.lowered), "{s:?}");
+        assert_eq!(totals::total(s, &closing.names), totals::best(s), "{s:?}");
+    }
 }
 
 #[test]

@@ -1,12 +1,12 @@
 //! Document 02, #102: a zero is no bid. Prices, rounds, reasons and the prices that balance are those of document 01's demand; names are not.
 
 use model::generate::{floored, sheet, sheet_above, Shape, FLOORS, SHAPES};
-use model::literal::{above, close, demand, demands, first_assignment, former_demand, path, path_by, Demand};
+use model::literal::{above, close, demand, demands, first_assignment, former_demand, path_by, Demand};
 use model::live::{Answer, Call, Report};
 use model::machine::Machine;
 use model::random::Random;
 use model::reasons::{along, along_by};
-use model::{flows, Sheet};
+use model::{flows, Sheet, ORDERS};
 
 /// A sheet of at most 3 by 4 with low amounts, most of its bids 0; every other one has floors.
 fn small(r: &mut Random) -> Sheet {
@@ -43,14 +43,16 @@ fn never_demanded() {
     assert!(dropped > 2_000, "{dropped}");
 }
 
-/// Rounds and reasons are what they were, on sheets with many zeros; some names are not.
+/// Rounds and reasons are what they were in both orders, on sheets with many zeros; some names are not.
 #[test]
 fn rounds_and_reasons_stay() {
     let mut renamed = 0;
     for s in small_sheets(202, 4_000) {
-        let (now, before) = (path(&s), path_by(&s, former_demand));
-        assert_eq!(now, before, "{s:?}");
-        assert_eq!(along(&s, &now), along_by(&s, &before, former_demand), "{s:?}");
+        for order in ORDERS {
+            let [now, before] = [demand, former_demand].map(|demand| path_by(&s, order, demand));
+            assert_eq!(now, before, "{s:?}");
+            assert_eq!(along(&s, &now), along_by(&s, &before, former_demand), "{s:?}");
+        }
         let closing = close(&s);
         let must = above(&s.floors, &closing.prices);
         let former = first_assignment(s.items, &demands(&s, &closing.prices, former_demand), must);
