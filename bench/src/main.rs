@@ -37,7 +37,8 @@ fn main() {
     let mut measured = sealed::Measured::default();
     let matched = matching::table(turns);
     let worst = sealed::kinds(turns, &mut measured);
-    sealed::floors(worst, turns, &mut measured);
+    sealed::floors(worst.clone(), turns, &mut measured);
+    sealed::falling(worst, turns, &mut measured);
     sealed::growth(turns, &mut measured);
     let compared = matched + measured.compared + live::table(turns) + bytes::table(turns) + reasons::table(turns);
     if quick {

@@ -1,5 +1,8 @@
 //! The matching once more in plain Rust, as a programmer would write it: free items first, then augmenting chains, with the entered items of
-//! failed chains kept. And the sealed auction round by round: a demand pass, the sets by the matching, the first assignment by asking for covers.
+//! failed chains kept. And the sealed auction round by round, in both orders: a demand pass, the sets by the matching, the first assignment by
+//! asking for covers.
+
+use model::Sheet;
 
 /// The bidder side of a chain: the lowest item not yet entered, and on failure the next. `may` are bidders who can go without.
 fn place(holder: &mut [u8; 32], entered: &mut u32, demand: &[u32; 64], may: u64, bidder: usize) -> bool {
@@ -158,26 +161,65 @@ pub struct Closing {
     pub names: Vec<u8>,
 }
 
+/// A sheet while its rounds are played.
+struct Letting<'a> {
+    sheet: &'a Sheet,
+    floors: [u16; 32],
+    prices: [u16; 32],
+    demands: Demands,
+}
+
+impl Letting<'_> {
+    fn new(sheet: &Sheet) -> Letting<'_> {
+        let prices = places(&sheet.start);
+        Letting { sheet, floors: places(&sheet.floors), prices, demands: demands(&prices, &sheet.bids, sheet.items) }
+    }
+
+    /// The rising set goes up until it is empty; in how many rounds.
+    fn raise(&mut self) -> u32 {
+        self.play(|at| rising(&at.demands), |price| *price += 1)
+    }
+
+    /// The falling set goes down until it is empty; in how many rounds.
+    fn lower(&mut self) -> u32 {
+        self.play(|at| falling(&at.demands, &at.floors, &at.prices), |price| *price -= 1)
+    }
+
+    fn play(&mut self, moves: impl Fn(&Self) -> u32, by_one: impl Fn(&mut u16)) -> u32 {
+        let mut rounds = 0;
+        let mut set = moves(self);
+        while set != 0 {
+            (0..32).filter(|&i| set >> i & 1 == 1).for_each(|i| by_one(&mut self.prices[i]));
+            self.demands = demands(&self.prices, &self.sheet.bids, self.sheet.items);
+            rounds += 1;
+            set = moves(self);
+        }
+        rounds
+    }
+
+    fn close(&self, rounds: [u32; 2], closing: &mut Closing) {
+        let Sheet { items, bidders, .. } = *self.sheet;
+        closing.rounds = rounds;
+        closing.prices.copy_from_slice(&self.prices[..items]);
+        let names = assign(&self.demands, above_floors(&self.floors, &self.prices), bidders);
+        closing.names.copy_from_slice(&names[..bidders]);
+    }
+}
+
 /// The sealed auction of a sheet within the limits, round by round.
 #[inline(never)]
-pub fn sealed(items: usize, bidders: usize, start: &[u16], floors: &[u16], bids: &[u16], closing: &mut Closing) {
-    let (mut p, floors) = (places(start), places(floors));
-    closing.rounds = [0; 2];
-    let mut d = demands(&p, bids, items);
-    let mut set = rising(&d);
-    while set != 0 {
-        (0..32).filter(|&i| set >> i & 1 == 1).for_each(|i| p[i] += 1);
-        closing.rounds[0] += 1;
-        d = demands(&p, bids, items);
-        set = rising(&d);
-    }
-    set = falling(&d, &floors, &p);
-    while set != 0 {
-        (0..32).filter(|&i| set >> i & 1 == 1).for_each(|i| p[i] -= 1);
-        closing.rounds[1] += 1;
-        d = demands(&p, bids, items);
-        set = falling(&d, &floors, &p);
-    }
-    closing.prices.copy_from_slice(&p[..items]);
-    closing.names.copy_from_slice(&assign(&d, above_floors(&floors, &p), bidders)[..bidders]);
+pub fn sealed(sheet: &Sheet, closing: &mut Closing) {
+    let mut at = Letting::new(sheet);
+    let raised = at.raise();
+    let lowered = at.lower();
+    at.close([raised, lowered], closing);
+}
+
+/// The same falling first.
+#[inline(never)]
+pub fn falling_first(sheet: &Sheet, closing: &mut Closing) {
+    let mut at = Letting::new(sheet);
+    let lowered = at.lower();
+    let raised = at.raise();
+    at.close([raised, lowered], closing);
 }

@@ -1,6 +1,6 @@
 //! The proved code's search once more in plain Rust, as fast as we could write it: the items put in over the bidders, the fall to the least
 //! prices, the rise from there to the floors, which is the close, and to the start, which is the turn, and the first assignment by
-//! reachability.
+//! reachability. Falling first the turn is the close with bids less what their bidders gain at the start.
 //!
 //! Numbers are signed and of 16 bits: every x86-64 processor has an instruction for the smaller, and for the larger, of eight such numbers at
 //! once. Lines are filled up to whole eights, so that no loop has places left over.
@@ -39,6 +39,17 @@ impl Table {
         let mut table = Table::new(bidders);
         for (i, to) in table.bids.chunks_exact_mut(table.width).take(items).enumerate() {
             to.iter_mut().zip(bids[i..].iter().step_by(items)).for_each(|(to, &bid)| *to = bid as i16);
+        }
+        table
+    }
+
+    /// The first lines with each bid less an amount, and 0 where that is more.
+    fn less(&self, lines: usize, amount: impl Fn(usize, usize) -> i16) -> Table {
+        let mut table = Table::new(self.items);
+        for (k, (to, line)) in table.bids.chunks_exact_mut(self.width).zip(self.lines()).take(lines).enumerate() {
+            for x in 0..line.len().min(64) {
+                to[x] = (line[x] - amount(k, x)).max(0);
+            }
         }
         table
     }
@@ -229,14 +240,21 @@ fn balance(table: &Table, transposed: &Table, turns: &mut u32) -> Outcome {
     balanced
 }
 
-/// The closing prices, and from there the prices at the turn.
-fn ends(start: &[u16], floors: &[u16], table: &Table, transposed: &Table, turns: &mut u32) -> ([i16; 64], [i16; 64]) {
+/// The least prices from the floors up.
+fn least(floors: &[u16], table: &Table, transposed: &Table, turns: &mut u32) -> Outcome {
     let mut at = balance(table, transposed, turns);
     at.fall(table, transposed.items, turns);
     at.rise(floors, table, turns);
-    let close = at.prices;
-    at.rise(start, table, turns);
-    (close, at.prices)
+    at
+}
+
+/// The highest surplus of a line's bidder, that of null included.
+fn surplus(prices: &[i16; 64], line: &[i16]) -> i16 {
+    let mut highest = 0;
+    for x in 0..line.len().min(32) {
+        highest = highest.max(line[x] - prices[x]);
+    }
+    highest
 }
 
 /// Each item's bit, within its half of the set.
@@ -256,10 +274,7 @@ fn demands(prices: &[i16; 64], table: &Table, bidders: usize) -> Demands {
     let mut prices = *prices;
     prices[table.items..].fill(CLOSED);
     for (b, line) in table.lines().enumerate().take(bidders) {
-        let mut highest = 0;
-        for x in 0..line.len().min(32) {
-            highest = highest.max(line[x] - prices[x]);
-        }
+        let highest = surplus(&prices, line);
         let mut set = [0; 32];
         for x in 0..line.len().min(32) {
             set[x] = if (line[x] > 0) & (line[x] - prices[x] == highest) { BITS[x] } else { 0 };
@@ -377,20 +392,50 @@ impl Way {
     }
 }
 
-fn most_over(a: impl IntoIterator<Item = i16>, b: impl IntoIterator<Item = i16>) -> u32 {
-    a.into_iter().zip(b).fold(0, |most, (x, y)| most.max(x - y)) as u32
+fn signed(prices: &[u16]) -> [i16; 64] {
+    std::array::from_fn(|i| prices.get(i).map_or(0, |&price| price as i16))
 }
+
+fn most_over(a: &[i16; 64], b: &[i16; 64]) -> u32 {
+    a.iter().zip(b).fold(0, |most, (x, y)| most.max(x - y)) as u32
+}
+
+/// Writes the closing prices, and the names at them.
+fn close_at(close: &[i16; 64], floors: &[u16], table: &Table, bidders: usize, closing: &mut Closing, turns: &mut u32) {
+    let prices: [u16; 32] = std::array::from_fn(|i| close[i] as u16);
+    closing.prices.copy_from_slice(&prices[..table.items]);
+    let names = first(&demands(close, table, bidders), above_floors(&places(floors), &prices), bidders, turns);
+    closing.names.copy_from_slice(&names[..bidders]);
+}
+
+/// Either order, as both are called.
+pub type Call = fn(usize, usize, &[u16], &[u16], &[u16], &mut Closing) -> u32;
 
 /// The sealed auction of a sheet within the limits, and how many steps its searches took.
 #[inline(never)]
 pub fn sealed(items: usize, bidders: usize, start: &[u16], floors: &[u16], bids: &[u16], closing: &mut Closing) -> u32 {
     let mut turns = 0;
     let (table, transposed) = (Table::of(bids, items), Table::transposed(bids, items, bidders));
-    let (close, turn) = ends(start, floors, &table, &transposed, &mut turns);
-    closing.rounds = [most_over(turn, start.iter().map(|&s| s as i16)), most_over(turn, close)];
-    let prices: [u16; 32] = std::array::from_fn(|i| close[i] as u16);
-    closing.prices.copy_from_slice(&prices[..items]);
-    let names = first(&demands(&close, &table, bidders), above_floors(&places(floors), &prices), bidders, &mut turns);
-    closing.names.copy_from_slice(&names[..bidders]);
+    let mut at = least(floors, &table, &transposed, &mut turns);
+    let close = at.prices;
+    at.rise(start, &table, &mut turns);
+    closing.rounds = [most_over(&at.prices, &signed(start)), most_over(&at.prices, &close)];
+    close_at(&close, floors, &table, bidders, closing, &mut turns);
+    turns
+}
+
+/// The same falling first.
+#[inline(never)]
+pub fn falling_first(items: usize, bidders: usize, start: &[u16], floors: &[u16], bids: &[u16], closing: &mut Closing) -> u32 {
+    let mut turns = 0;
+    let (table, transposed) = (Table::of(bids, items), Table::transposed(bids, items, bidders));
+    let start = signed(start);
+    let mut gains = [0; 64];
+    gains.iter_mut().zip(table.lines()).take(bidders).for_each(|(gain, line)| *gain = surplus(&start, line));
+    let (less, less_transposed) = (table.less(bidders, |b, _| gains[b]), transposed.less(items, |_, b| gains[b]));
+    let turn = least(floors, &less, &less_transposed, &mut turns).prices;
+    let close = least(floors, &table, &transposed, &mut turns).prices;
+    closing.rounds = [most_over(&close, &turn), most_over(&start, &turn)];
+    close_at(&close, floors, &table, bidders, closing, &mut turns);
     turns
 }

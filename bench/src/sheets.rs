@@ -1,7 +1,7 @@
 //! The sheets that the sealed auction is timed on: random ones, ones with many ties, and the worst that a search finds.
 
 use crate::plain::Closing;
-use crate::search;
+use crate::search::Call;
 use model::random::Random;
 use model::{Sheet, TOP};
 
@@ -42,19 +42,18 @@ pub fn longest() -> Sheet {
 }
 
 /// How much the searches of a sheet have to do, by the plain Rust of the same search.
-fn work(s: &Sheet) -> u32 {
+fn work(s: &Sheet, search: Call) -> u32 {
     let mut closing = Closing { rounds: [0; 2], prices: vec![0; s.items], names: vec![0; s.bidders] };
-    search::sealed(s.items, s.bidders, &s.start, &s.floors, &s.bids, &mut closing)
+    search(s.items, s.bidders, &s.start, &s.floors, &s.bids, &mut closing)
 }
 
-/// A sheet without floors from which no change tried makes the searches longer: numbers are moved, drawn again and swapped, bidders and
-/// items copied and swapped, and what makes more work stays.
-pub fn worst(from: Sheet, steps: usize, r: &mut Random) -> Sheet {
+/// A sheet from which no change tried makes the searches longer: what makes more work stays.
+pub fn worst(from: Sheet, search: Call, change: fn(&Sheet, &mut Random) -> Sheet, steps: usize, r: &mut Random) -> Sheet {
     let mut worst = from;
-    let mut most = work(&worst);
+    let mut most = work(&worst, search);
     for _ in 0..steps {
-        let next = changed(&worst, r);
-        let work = work(&next);
+        let next = change(&worst, r);
+        let work = work(&next, search);
         if most <= work {
             (worst, most) = (next, work);
         }
@@ -62,13 +61,17 @@ pub fn worst(from: Sheet, steps: usize, r: &mut Random) -> Sheet {
     worst
 }
 
-fn changed(s: &Sheet, r: &mut Random) -> Sheet {
+fn near(x: u16, r: &mut Random) -> u16 {
+    (x + r.amount(8)).saturating_sub(4).min(TOP)
+}
+
+/// A number is moved, drawn again or swapped, or a bidder or item copied or swapped; the floors stay.
+pub fn changed(s: &Sheet, r: &mut Random) -> Sheet {
     let mut t = s.clone();
     let (items, bidders) = (s.items, s.bidders);
     let k = r.within(0, items * bidders - 1);
     let (a, b) = (r.within(0, bidders - 1), r.within(0, bidders - 1));
     let (i, j) = (r.within(0, items - 1), r.within(0, items - 1));
-    let near = |x: u16, r: &mut Random| (x + r.amount(8)).saturating_sub(4).min(TOP);
     match r.within(0, 6) {
         0 => t.bids[k] = r.amount(TOP),
         1 => t.bids[k] = near(t.bids[k], r),
@@ -81,5 +84,18 @@ fn changed(s: &Sheet, r: &mut Random) -> Sheet {
             t.start.swap(i, j);
         }
     }
+    t
+}
+
+/// The same, and at times a floor moved or drawn again. A start below its floor goes up to it.
+pub fn changed_above(s: &Sheet, r: &mut Random) -> Sheet {
+    let mut t = changed(s, r);
+    let i = r.within(0, s.items - 1);
+    match r.within(0, 5) {
+        0 => t.floors[i] = r.amount(TOP),
+        1 => t.floors[i] = near(t.floors[i], r),
+        _ => (),
+    }
+    t.start.iter_mut().zip(&t.floors).for_each(|(start, &floor)| *start = floor.max(*start));
     t
 }
