@@ -206,20 +206,15 @@ impl Letting<'_> {
     }
 }
 
-/// The sealed auction of a sheet within the limits, round by round.
+/// The sealed auction of a sheet within the limits, round by round, in either order.
 #[inline(never)]
-pub fn sealed(sheet: &Sheet, closing: &mut Closing) {
+pub fn sealed(sheet: &Sheet, falling_first: bool, closing: &mut Closing) {
     let mut at = Letting::new(sheet);
-    let raised = at.raise();
-    let lowered = at.lower();
-    at.close([raised, lowered], closing);
-}
-
-/// The same falling first.
-#[inline(never)]
-pub fn falling_first(sheet: &Sheet, closing: &mut Closing) {
-    let mut at = Letting::new(sheet);
-    let lowered = at.lower();
-    let raised = at.raise();
+    let (raised, lowered) = if falling_first {
+        let lowered = at.lower();
+        (at.raise(), lowered)
+    } else {
+        (at.raise(), at.lower())
+    };
     at.close([raised, lowered], closing);
 }

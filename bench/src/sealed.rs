@@ -44,10 +44,7 @@ impl Auction {
     }
 
     fn by_rounds(self, s: &Sheet, c: &mut Closing) {
-        match self {
-            Auction::FallingFirst => plain::falling_first(s, c),
-            _ => plain::sealed(s, c),
-        }
+        plain::sealed(s, self == Auction::FallingFirst, c);
     }
 }
 

@@ -80,39 +80,20 @@ pub struct Closing {
 }
 
 mod linked {
+    // A slice is passed as its address and its length.
     extern "C" {
-        // A slice is passed as its address and its length.
-        pub fn dewgneiss_sealed(
-            items: u32,
-            bidders: u32,
-            start: *const u16,
-            start_len: usize,
-            bids: *const u16,
-            bids_len: usize,
-            rounds: *mut u32,
-            rounds_len: usize,
-            prices: *mut u16,
-            prices_len: usize,
-            names: *mut u8,
-            names_len: usize,
-        ) -> u8;
         pub fn dewgneiss_close_sheet(bytes: *const u8, bytes_len: usize, out: *mut u8, out_len: usize) -> u8;
         pub fn dewgneiss_reasons(bytes: *const u8, bytes_len: usize, out: *mut u8, out_len: usize) -> usize;
     }
 
-    // Sealed auctions with floors, which take and leave the same.
-    macro_rules! above {
-        ($($name:ident),*) => {
+    // The sealed auctions differ in what they read, and leave the same.
+    macro_rules! sealed {
+        ($($name:ident($($read:ident $len:ident),*);)*) => {
             extern "C" {
                 $(pub fn $name(
                     items: u32,
                     bidders: u32,
-                    start: *const u16,
-                    start_len: usize,
-                    floors: *const u16,
-                    floors_len: usize,
-                    bids: *const u16,
-                    bids_len: usize,
+                    $($read: *const u16, $len: usize,)*
                     rounds: *mut u32,
                     rounds_len: usize,
                     prices: *mut u16,
@@ -123,7 +104,11 @@ mod linked {
             }
         };
     }
-    above!(dewgneiss_sealed_above, dewgneiss_falling_first);
+    sealed! {
+        dewgneiss_sealed(start start_len, bids bids_len);
+        dewgneiss_sealed_above(start start_len, floors floors_len, bids bids_len);
+        dewgneiss_falling_first(start start_len, floors floors_len, bids bids_len);
+    }
 }
 
 /// Calls a proved function: with numbers, with slices that it reads, and with slices that it writes to.
@@ -175,45 +160,32 @@ fn closing(
     Ok(Closing { raised: rounds[0], lowered: rounds[1], prices, names })
 }
 
-/// [`sealed`] into lent memory: `rounds` has 2 places (raised, lowered), `prices` one for each item, `names` one for each bidder.
-///
-/// Another length is refused with 3. After a refusal the lent memory is as it was.
-pub fn sealed_into(
-    items: u32,
-    bidders: u32,
-    start: &[u16],
-    bids: &[u16],
-    rounds: &mut [u32],
-    prices: &mut [u16],
-    names: &mut [u8],
-) -> Result<(), Refusal> {
-    refusal::of(call!(dewgneiss_sealed(items, bidders; start, bids; rounds, prices, names)))
-}
-
-/// Sealed auctions with floors into lent memory: they take and leave the same.
-macro_rules! above_into {
-    ($($(#[$doc:meta])* $name:ident: $function:ident;)*) => {
+/// The sealed auctions into lent memory: they differ in what they read.
+macro_rules! into_lent {
+    ($($(#[$doc:meta])* $name:ident($($read:ident),*): $function:ident;)*) => {
         $($(#[$doc])*
         #[allow(clippy::too_many_arguments)] // as the proved function has them
         pub fn $name(
             items: u32,
             bidders: u32,
-            start: &[u16],
-            floors: &[u16],
-            bids: &[u16],
+            $($read: &[u16],)*
             rounds: &mut [u32],
             prices: &mut [u16],
             names: &mut [u8],
         ) -> Result<(), Refusal> {
-            refusal::of(call!($function(items, bidders; start, floors, bids; rounds, prices, names)))
+            refusal::of(call!($function(items, bidders; $($read),*; rounds, prices, names)))
         })*
     };
 }
-above_into! {
+into_lent! {
+    /// [`sealed`] into lent memory: `rounds` has 2 places (raised, lowered), `prices` one for each item, `names` one for each bidder.
+    ///
+    /// Another length is refused with 3. After a refusal the lent memory is as it was.
+    sealed_into(start, bids): dewgneiss_sealed;
     /// [`sealed_above`] into lent memory, as [`sealed_into`].
-    sealed_above_into: dewgneiss_sealed_above;
+    sealed_above_into(start, floors, bids): dewgneiss_sealed_above;
     /// [`falling_first`] into lent memory, as [`sealed_into`].
-    falling_first_into: dewgneiss_falling_first;
+    falling_first_into(start, floors, bids): dewgneiss_falling_first;
 }
 
 /// The closing sheet of a bid sheet, both as bytes. Every floor is 0.

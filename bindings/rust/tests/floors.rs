@@ -27,34 +27,17 @@ fn closing() -> Closing {
     Closing { raised: 2, lowered: 2, prices: vec![3, 6, 8], names: vec![0, 2, 1] }
 }
 
+/// In both orders it closes alike; the turn and the rounds are others.
 #[test]
 fn the_example_by_numbers() {
-    assert_eq!(sealed_above(3, 3, &START, &FLOORS, &BIDS), Ok(closing()));
-    assert_eq!(turn_above(&START, &FLOORS, &BIDS, &closing()), Ok(vec![4, 6, 10]));
-    assert_eq!(
-        rounds(reasons_above(3, 3, &START, &FLOORS, &BIDS).unwrap()),
-        [
-            (Kind::Raised, 0b010, 0b111),
-            (Kind::Raised, 0b010, 0b011),
-            (Kind::Lowered, 0b101, 0b100),
-            (Kind::Lowered, 0b100, 0b000)
-        ]
-    );
-}
-
-#[test]
-fn the_example_falling_first() {
-    assert_eq!(falling_first(3, 3, &START, &FLOORS, &BIDS), Ok(closing()));
-    assert_eq!(falling_turn(&START, &FLOORS, &BIDS, &closing()), Ok(vec![3, 4, 8]));
-    assert_eq!(
-        rounds(falling_reasons(3, 3, &START, &FLOORS, &BIDS).unwrap()),
-        [
-            (Kind::Lowered, 0b101, 0b000),
-            (Kind::Lowered, 0b100, 0b000),
-            (Kind::Raised, 0b010, 0b011),
-            (Kind::Raised, 0b010, 0b011)
-        ]
-    );
+    let [up, down] = [Kind::Raised, Kind::Lowered];
+    let closings = [sealed_above, falling_first].map(|close| close(3, 3, &START, &FLOORS, &BIDS));
+    assert_eq!(closings, [Ok(closing()), Ok(closing())]);
+    let turns = [turn_above, falling_turn].map(|turn| turn(&START, &FLOORS, &BIDS, &closing()));
+    assert_eq!(turns, [Ok(vec![4, 6, 10]), Ok(vec![3, 4, 8])]);
+    let played = [reasons_above, falling_reasons].map(|reasons| rounds(reasons(3, 3, &START, &FLOORS, &BIDS).unwrap()));
+    assert_eq!(played[0], [(up, 0b010, 0b111), (up, 0b010, 0b011), (down, 0b101, 0b100), (down, 0b100, 0b000)]);
+    assert_eq!(played[1], [(down, 0b101, 0b000), (down, 0b100, 0b000), (up, 0b010, 0b011), (up, 0b010, 0b011)]);
 }
 
 fn rounds(reasons: Vec<Reason>) -> Vec<(Kind, u32, u64)> {

@@ -1,3 +1,4 @@
+pub mod Applied
 pub mod LeastPrices
 pub mod Settling
 pub mod Reducing

@@ -34,7 +34,7 @@ module _ (s : Sheet) (lim : Limits s) (fall : Closing (reduced s)) where
   abbrev turn : List ℕ
   turn = fall .prices
 
-  -- what holds of the prices after each round up to the turn holds at the turn
+  -- what holds of the prices after the last fall holds of the turn
   by-falls : (P : List ℕ → Type 0) → P (fallen s fall downs) → P turn
   by-falls P h = subst P (turn-is s fall) h
 

@@ -107,11 +107,6 @@ module _ (s : Sheet) where
     falls : (k : ℕ) → k < fall .downs → roundOf (reduced s) k ≡ lowered (excessSupplyAt (reduced s) (fallen k))
     falls k l = subst (λ (j : ℕ). roundOf (reduced s) j ≡ lowered (excessSupplyAt (reduced s) (fallen j))) (from-start k) (fall .falls k l)
 
-    some : (k : ℕ) → k < fall .downs → excessSupplyAt (reduced s) (fallen k) ≡ 0 → ⊥
-    some k l =
-        lowered-some (s .items) (aboveFloors (s .items) (s .floors) (fallen k)) (demandsAt (reduced s) (fallen k)) (path (reduced s) k .phase) (excessSupplyAt (reduced s) (fallen k))
-        (unfold roundAt in falls k l)
-
     step : (k : ℕ) → k < fall .downs → fallen (suc k) ≡ lower (s .items) (fallen k) (excessSupplyAt (reduced s) (fallen k))
     unfolding path after move
     step k l = ap (λ (r : Round). move (s .items) (path (reduced s) k) r .prices) (falls k l)
@@ -131,8 +126,11 @@ module _ (s : Sheet) where
     same-at k l =
         same-supply (s .items) (s .start) (fallen k) (below k l) (aboveFloors (s .items) (s .floors) (fallen k)) (aboveFloors-up (s .items) (s .floors) (fallen k)) (s .bids)
 
+    -- and not empty
     pub some-falls : (k : ℕ) → k < fall .downs → excessSupplyAt s (fallen k) ≡ 0 → ⊥
-    some-falls k l e = some k l (same-at k (omega arith) ∙ e)
+    some-falls k l e =
+        lowered-some (s .items) (aboveFloors (s .items) (s .floors) (fallen k)) (demandsAt (reduced s) (fallen k)) (path (reduced s) k .phase) (excessSupplyAt (reduced s) (fallen k))
+        (unfold roundAt in falls k l) (same-at k (omega arith) ∙ e)
 
     pub path-falls : (k : ℕ) → k ≤ fall .downs → fallingPath s k ≡ stateAt falling (fallen k) 0 k
     path-falls zero l = unfold fallingPath in ap (λ (p : List ℕ). stateAt falling p 0 0) (sym start-is)
