@@ -3,6 +3,7 @@
 //! Here a bid sheet may have a line of floors: the second line, `f` and then four digits for each item. The proved reader of bid sheets knows no such line, and a
 //! sheet without one means floors of 0.
 
+use crate::digits::number;
 use crate::{close_sheet, Closing, Order};
 use std::error::Error;
 
@@ -36,20 +37,15 @@ pub fn has_floors(sheet: &[u8]) -> bool {
 }
 
 /// The numbers in a line of digits, four to a number.
-fn numbers(line: &str) -> Vec<u16> {
-    let digits: Vec<char> = line.chars().collect();
-    let value = |d: &[char]| d.iter().fold(0, |v, c| 16 * v + c.to_digit(16).unwrap_or(0));
-    digits.chunks(4).map(|d| value(d) as u16).collect()
+fn numbers(line: &[u8]) -> Option<Vec<u16>> {
+    line.chunks(4).map(|digits| number(digits).map(|x| x as u16)).collect()
 }
 
 /// The floors of so many items, from the digits of their line.
 fn read_floors(digits: &[u8], items: usize) -> Result<Vec<u16>, Box<dyn Error>> {
-    let good = digits.iter().all(|d| matches!(d, b'0'..=b'9' | b'a'..=b'f'));
-    if !good || digits.len() != 4 * items {
-        let wanted = format!("f, and then four digits 0-9 and a-f for each of the sheet's {items} pans");
-        return Err(format!("turned down with 06: the second line is no line of floors: {wanted}").into());
-    }
-    Ok(numbers(std::str::from_utf8(digits)?))
+    let wanted = format!("f, and then four digits 0-9 and a-f for each of the sheet's {items} pans");
+    let none = format!("turned down with 06: the second line is no line of floors: {wanted}");
+    Ok(numbers(digits).filter(|floors| floors.len() == items).ok_or(none)?)
 }
 
 impl Accepted {
@@ -61,11 +57,11 @@ impl Accepted {
             Err(refusal) if !matches!(refusal.number(), 4 | 5) => return Err(refusal.into()),
             _ => {}
         }
-        let text = String::from_utf8(plain)?;
-        let lines: Vec<&str> = text.lines().collect();
-        let start = numbers(&lines[0][4..]);
+        // It has read counts, and behind them lines of digits.
+        let lines: Vec<Vec<u16>> = plain[4..plain.len() - 1].split(|&b| b == b'\n').map_while(numbers).collect();
+        let start = lines[0].clone();
         let floors = digits.map_or(Ok(vec![0; start.len()]), |digits| read_floors(digits, start.len()))?;
-        let bids: Vec<u16> = lines[1..].iter().flat_map(|line| numbers(line)).collect();
+        let bids = lines[1..].concat();
         let close = |order: Order| order.close(start.len() as u32, lines.len() as u32 - 1, &start, &floors, &bids);
         let [rising, falling] = [close(Order::RisingFirst)?, close(Order::FallingFirst)?];
         let rounds = [&rising, &falling].map(|closing| closing.raised + closing.lowered);

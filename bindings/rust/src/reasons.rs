@@ -1,6 +1,7 @@
 //! The sheet of reasons: for every round its kind, the items that moved, and the bidders for whose demands they did.
 
 use crate::accepted::written;
+use crate::digits::{digit_value, number};
 use crate::turn::{bids_beyond, bids_to_fall_by};
 use crate::{call, refusal, sealed_above, Refusal, LONGEST_REASONS};
 
@@ -28,7 +29,7 @@ const LINE: usize = 31;
 ///
 /// Refused with 6 for the first four bytes, 1, 2, 6 for the rest, 4 or 5, in this order.
 pub fn reasons(bytes: &[u8]) -> Result<Vec<Reason>, Refusal> {
-    Ok(reason_sheet(bytes)?.chunks_exact(LINE).map(read_line).collect())
+    Ok(reason_sheet(bytes)?.chunks_exact(LINE).map_while(read_line).collect())
 }
 
 /// The reasons of an auction with floors, round by round: those of another auction, whose floors are 0 (plain Rust, not proved).
@@ -66,9 +67,10 @@ pub fn reason_sheet(bytes: &[u8]) -> Result<Vec<u8>, Refusal> {
     let mut out = vec![0; LONGEST_REASONS];
     let long = reason_sheet_into(bytes, &mut out);
     out.truncate(long);
-    // Three bytes are no lines of rounds: they are the line of a number.
+    // Three bytes are no lines of rounds: they are the line of a number, in decimal digits.
     if let [tens, ones, _] = out[..] {
-        refusal::of(10 * (tens - b'0') + (ones - b'0'))?;
+        let [tens, ones] = [tens, ones].map(|byte| digit_value(byte).unwrap_or(0));
+        refusal::of(10 * tens + ones)?;
     }
     Ok(out)
 }
@@ -79,9 +81,8 @@ pub fn reason_sheet_into(bytes: &[u8], out: &mut [u8]) -> usize {
     call!(dewgneiss_reasons(; bytes; out))
 }
 
-/// What a line says. It comes from the proved code, so its digits are digits.
-fn read_line(line: &[u8]) -> Reason {
-    let number = |digits: &[u8]| digits.iter().fold(0u64, |x, &d| 16 * x + u64::from((d as char).to_digit(16).unwrap_or(0)));
-    let kind = if number(&line[4..6]) == 1 { Kind::Raised } else { Kind::Lowered };
-    Reason { kind, items: number(&line[6..14]) as u32, bidders: number(&line[14..30]) }
+/// What a line of the proved code says.
+fn read_line(line: &[u8]) -> Option<Reason> {
+    let kind = if number(&line[4..6])? == 1 { Kind::Raised } else { Kind::Lowered };
+    Some(Reason { kind, items: number(&line[6..14])? as u32, bidders: number(&line[14..30])? })
 }

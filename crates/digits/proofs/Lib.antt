@@ -1,4 +1,5 @@
 pub mod Digits
+pub mod Table
 pub mod Halves
 pub mod Stands
 pub mod Gives

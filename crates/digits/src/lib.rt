@@ -8,14 +8,30 @@ ghost use lib.ListN.{length};
 ghost use lib.Seq.{sets};
 ghost use Rattle.digits.specs.Digits.{digit, hex};
 ghost use Rattle.digits.specs.Reading.{digitValue, digitAt, numberIn, asNumber};
+ghost use Rattle.digits.specs.Table.{byTable};
 
-// The value of a byte as a digit, and 16 where it is none: only 0 to 9 and a to f are digits.
+// The value of a byte as a digit, and 16 where it is none: sixteen cases in the order of the ASCII table, to be laid beside it.
 pub fn digit_value(byte: u8) -> u8
-    ensures { λ r. ⌜ r ≡ Option·getD (digitValue byte) 16 ⌝ }
+    ensures rule { λ r. ⌜ r ≡ Option·getD (digitValue byte) 16 ⌝ }
+    ensures table { λ r. ⌜ r ≡ Option·getD (byTable byte) 16 ⌝ }
 {
     match byte {
-        b'0'..=b'9' => byte - b'0',
-        b'a'..=b'f' => byte - b'a' + 10,
+        b'0' => 0,
+        b'1' => 1,
+        b'2' => 2,
+        b'3' => 3,
+        b'4' => 4,
+        b'5' => 5,
+        b'6' => 6,
+        b'7' => 7,
+        b'8' => 8,
+        b'9' => 9,
+        b'a' => 10,
+        b'b' => 11,
+        b'c' => 12,
+        b'd' => 13,
+        b'e' => 14,
+        b'f' => 15,
         _ => 16,
     }
 }

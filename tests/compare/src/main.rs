@@ -3,6 +3,7 @@
 //! `compare [SHEETS] [LISTS] [SEED]`. Its last line is 'N passed, M failed': M comparisons differ, and it fails if M is not 0. The
 //! programs are looked for in `target/bin` of the repository, where `rt` leaves them.
 
+mod bytes;
 mod fixed;
 mod floors;
 mod lent;
@@ -68,6 +69,7 @@ fn main() {
     };
     let mut total = Tally::default();
     stage(&mut total, "document 01's lettings", fixed::all);
+    stage(&mut total, "all 256 bytes, through the wrapper", bytes::all);
     stage(&mut total, "sheets within the limits, through the wrapper", || sheets::accepted(count * 2 / 3, seed));
     stage(&mut total, "damaged sheets, through the wrapper", || sheets::damaged(count / 3, seed));
     stage(&mut total, "lent memory, through the wrapper", || lent::all(Entry::Sealed, count / 12, seed));

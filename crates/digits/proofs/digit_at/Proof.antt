@@ -27,7 +27,7 @@ digit-value-requires c κs = search needs
 returns-2 : tie.Need-returns-2
 returns-2 c =
     let a = c .before .before .before .before .before .args in
-    c .digit-value .ensures ∙ ap (λ (o : Option ℕ). Option·getD o 16) (sym (digit-there (a .s .now) (a .at + a .further) (c .before .before .if2 .taken)))
+    c .digit-value .ensures .0 ∙ ap (λ (o : Option ℕ). Option·getD o 16) (sym (digit-there (a .s .now) (a .at + a .further) (c .before .before .if2 .taken)))
 
 returns-3 : tie.Need-returns-3
 returns-3 c =
