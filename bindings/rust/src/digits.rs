@@ -1,16 +1,8 @@
-//! Digits, each read by the proved function that turns a byte into its value.
+//! Digits, for the tools: what the proved reader has taken for a number is turned into its value here.
 
-use crate::call;
-
-/// The value of a byte as a digit: 0 to 15 for `0` to `9` and `a` to `f`, and none for any other byte.
-///
-/// ```
-/// assert_eq!(dewgneiss::digit_value(b'a'), Some(10));
-/// assert_eq!(dewgneiss::digit_value(b'A'), None);
-/// ```
-pub fn digit_value(byte: u8) -> Option<u8> {
-    let value = call!(dewgneiss_digit_value(byte; ; ));
-    (value < 16).then_some(value)
+/// The value of a byte as a digit: its place among the sixteen.
+pub(crate) fn digit_value(byte: u8) -> Option<u8> {
+    b"0123456789abcdef".iter().zip(0..).find_map(|(&digit, value)| (digit == byte).then_some(value))
 }
 
 /// The number in at most 16 digits, if each byte is one.

@@ -47,7 +47,6 @@ pub mod table;
 mod turn;
 
 pub use accepted::has_floors;
-pub use digits::digit_value;
 pub use order::Order;
 pub use reasons::{falling_reasons, reason_sheet, reason_sheet_into, reasons, reasons_above, Kind, Reason};
 pub use refusal::Refusal;
@@ -86,7 +85,6 @@ mod linked {
     extern "C" {
         pub fn dewgneiss_close_sheet(bytes: *const u8, bytes_len: usize, out: *mut u8, out_len: usize) -> u8;
         pub fn dewgneiss_reasons(bytes: *const u8, bytes_len: usize, out: *mut u8, out_len: usize) -> usize;
-        pub fn dewgneiss_digit_value(byte: u8) -> u8;
     }
 
     // The sealed auctions differ in what they read, and leave the same.

@@ -1,12 +1,10 @@
 // The sealed auction and the sheets, for Rust or C to link: a slice is passed as its address and its length.
 ghost use mathlib.Core.Path.{_≡_};
 ghost use mathlib.Core.List.{[], _∷_};
-ghost use mathlib.Core.Option.{Option·getD};
 ghost use Prim.Native.Nat.{_≤_};
 ghost use lib.ListN.{length};
 ghost use Rattle.sets.specs.Lists.{places};
 ghost use Rattle.auction.specs.Sealed.{sealedOf, sealedAboveOf, fallingFirstOf};
-ghost use Rattle.digits.specs.Reading.{digitValue};
 ghost use Rattle.lines.specs.Lines.{writtenTo};
 ghost use Rattle.sheet.specs.Close.{sheetRefusal, closedTo, byNumber};
 ghost use Rattle.reasons.specs.Sheets.{answerOf};
@@ -210,12 +208,4 @@ pub extern "C" fn dewgneiss_reasons(bytes: &[u8], out: &mut [u8]) -> usize
         × (now (out .exit) ≡ writtenTo (now (out .entry)) (answerOf (now (bytes .entry)) (length (now (out .entry))))) ⌝ }
 {
     reasons::answer(bytes, out)
-}
-
-// The value of a byte as a digit, and 16 where it is none: for a tool that reads numbers of a sheet, so that there is one such function.
-#[no_mangle]
-pub extern "C" fn dewgneiss_digit_value(byte: u8) -> u8
-    ensures { λ r. ⌜ r ≡ Option·getD (digitValue byte) 16 ⌝ }
-{
-    digits::digit_value(byte)
 }

@@ -36,6 +36,34 @@ pub fn digit_value(byte: u8) -> u8
     }
 }
 
+// The value of a byte that is among 64 bytes of the ASCII table, from a byte on; of any other, what is known by then.
+fn digit_among(byte: u8, from: u8, known: u8) -> u8
+    ensures { λ r. ⌜ (from ≤ byte → byte < from + 64 → r ≡ Option·getD (digitValue byte) 16)
+        × (byte < from → r ≡ known) × (from + 64 ≤ byte → r ≡ known) ⌝ }
+{
+    if byte < from {
+        return known;
+    }
+    if 63 < byte - from {
+        return known;
+    }
+    digit_value(byte)
+}
+
+// The value of a byte as a digit, asked of one half of the ASCII table and then of the other. Numerals stand close together in the first, letters in the second,
+// and the compiler makes a sum of such cases; of all sixteen at once it makes a jump, and a sheet takes five times as long to read (docs/BENCHMARKS.md).
+fn digit_by_halves(byte: u8) -> u8
+    ensures { λ r. ⌜ r ≡ Option·getD (digitValue byte) 16 ⌝ }
+{
+    let mut value: u8 = 16;
+    let mut from: u8 = 0;
+    while from < 128 {
+        value = digit_among(byte, from, value);
+        from += 64;
+    }
+    value
+}
+
 // What stands in digits at a place, if all of them are digits.
 pub enum Number {
     Is(u32),
@@ -52,7 +80,7 @@ fn digit_at(s: &[u8], at: usize, further: usize) -> u8
     }
     let here = at + further;
     if here < s.len() {
-        return digit_value(s[here]);
+        return digit_by_halves(s[here]);
     }
     16
 }

@@ -18,16 +18,16 @@ returns c =
 add-here : tie.Need-add-here
 add-here c = search needs
 
-shared-slice-read-digit-value : tie.Need-shared-slice-read-digit-value
-shared-slice-read-digit-value c = search needs
+shared-slice-read-digit-by-halves : tie.Need-shared-slice-read-digit-by-halves
+shared-slice-read-digit-by-halves c = search needs
 
-digit-value-requires : tie.Need-digit-value-requires
-digit-value-requires c κs = search needs
+digit-by-halves-requires : tie.Need-digit-by-halves-requires
+digit-by-halves-requires c κs = search needs
 
 returns-2 : tie.Need-returns-2
 returns-2 c =
     let a = c .before .before .before .before .before .args in
-    c .digit-value .ensures .0 ∙ ap (λ (o : Option ℕ). Option·getD o 16) (sym (digit-there (a .s .now) (a .at + a .further) (c .before .before .if2 .taken)))
+    c .digit-by-halves .ensures ∙ ap (λ (o : Option ℕ). Option·getD o 16) (sym (digit-there (a .s .now) (a .at + a .further) (c .before .before .if2 .taken)))
 
 returns-3 : tie.Need-returns-3
 returns-3 c =
@@ -40,7 +40,7 @@ digit-at-spec =
     (tie.spec
     returns
     add-here
-    shared-slice-read-digit-value
-    digit-value-requires
+    shared-slice-read-digit-by-halves
+    digit-by-halves-requires
     returns-2
     returns-3)
