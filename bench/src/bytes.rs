@@ -144,8 +144,8 @@ fn proved(bytes: &[u8], out: &mut [u8; LONGEST]) -> u8 {
     dewgneiss::close_sheet_into(bytes, out).map_or_else(|refusal| refusal.number(), |()| 0)
 }
 
-/// The table; how many answers were compared.
-pub fn table(turns: usize) -> usize {
+/// The table, and of it the ratio of reading a bid sheet; how many answers were compared.
+pub fn table(turns: usize, reading: &mut f64) -> usize {
     let mut r = Random::new(10);
     let sheets: Vec<Sheet> = (0..20).map(|_| random(32, 64, TOP, |r| r.amount(TOP), &mut r)).collect();
     let said: Vec<Said> = sheets.iter().map(Said::of).collect();
@@ -189,6 +189,7 @@ pub fn table(turns: usize) -> usize {
             }],
         )
         .map(|t| t / 100.0);
+        *reading = read[0] / read[1];
         for (what, [proved, plain]) in [
             ("a bid sheet is read, and turned down for its last bid", read),
             ("a closing sheet is written", write),

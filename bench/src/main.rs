@@ -40,7 +40,8 @@ fn main() {
     sealed::floors(worst.clone(), turns, &mut measured);
     sealed::falling(worst, turns, &mut measured);
     sealed::growth(turns, &mut measured);
-    let compared = matched + measured.compared + live::table(turns) + bytes::table(turns) + reasons::table(turns);
+    let compared =
+        matched + measured.compared + live::table(turns) + bytes::table(turns, &mut measured.reading) + reasons::table(turns);
     if quick {
         println!("{compared} passed, 0 failed");
     } else {

@@ -101,6 +101,8 @@ pub struct Measured {
     /// The highest ratio to plain Rust of the same search, and on which sheets of 32 items and 64 bidders.
     ratio: f64,
     highest_on: String,
+    /// The ratio to plain Rust of reading a bid sheet.
+    pub reading: f64,
 }
 
 impl Measured {
@@ -139,6 +141,8 @@ impl Measured {
         line("falling first, any sheet of this run", "at most 120 µs", format!("{falling:.1} µs"), falling <= 120.0);
         let ratio = format!("{:.2} ({})", self.ratio, self.highest_on);
         line("beside plain Rust of the same search", "at most 1.5 times the time", ratio, self.ratio <= 1.5);
+        let reading = format!("{:.2}", self.reading);
+        line("a bid sheet is read, beside plain Rust", "at most 2.5 times the time", reading, self.reading <= 2.5);
     }
 }
 

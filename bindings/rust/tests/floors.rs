@@ -145,6 +145,18 @@ fn a_bad_sheet_with_floors_is_not_shown() {
     }
 }
 
+/// A floor is read in the same sixteen digits as the proved reader reads a bid.
+#[test]
+fn every_byte_in_a_floor_and_in_a_bid() {
+    for byte in 0..=255 {
+        let [floor, bid] = [b"0101000f\nf000?\n0000\n", b"0101000f\nf0000\n000?\n"].map(|sheet| {
+            let bytes: Vec<u8> = sheet.iter().map(|&b| if b == b'?' { byte } else { b }).collect();
+            show(&bytes, RisingFirst).is_ok()
+        });
+        assert_eq!([floor, bid], [b"0123456789abcdef".contains(&byte); 2], "byte {byte}");
+    }
+}
+
 /// A bid that begins with f makes no line of floors: it is too high.
 #[test]
 fn bids_that_begin_with_f() {

@@ -50,8 +50,8 @@ fn digit_among(byte: u8, from: u8, known: u8) -> u8
     digit_value(byte)
 }
 
-// The value of a byte as a digit, asked of one half of the ASCII table and then of the other. Numerals stand close together in the first, letters in the second,
-// and the compiler makes a sum of such cases; of all sixteen at once it makes a jump, and a sheet takes five times as long to read (docs/BENCHMARKS.md).
+// The value of a byte as a digit, asked for in one half of the ASCII table and then in the other. Numerals stand close together in the first half, letters in the
+// second, and of cases close together the compiler makes a sum. Of all sixteen at once it makes a jump, and a sheet takes five times as long to read.
 fn digit_by_halves(byte: u8) -> u8
     ensures { λ r. ⌜ r ≡ Option·getD (digitValue byte) 16 ⌝ }
 {
