@@ -145,15 +145,21 @@ fn a_bad_sheet_with_floors_is_not_shown() {
     }
 }
 
-/// A floor is read in the same sixteen digits as the proved reader reads a bid.
+/// A floor is read in sixteen digits, as the proved reader reads a bid.
 #[test]
 fn every_byte_in_a_floor_and_in_a_bid() {
+    let shown = |sheet: &[u8], byte: u8| {
+        let bytes: Vec<u8> = sheet.iter().map(|&b| if b == b'?' { byte } else { b }).collect();
+        show(&bytes, RisingFirst).ok()
+    };
     for byte in 0..=255 {
-        let [floor, bid] = [b"0101000f\nf000?\n0000\n", b"0101000f\nf0000\n000?\n"].map(|sheet| {
-            let bytes: Vec<u8> = sheet.iter().map(|&b| if b == b'?' { byte } else { b }).collect();
-            show(&bytes, RisingFirst).is_ok()
-        });
-        assert_eq!([floor, bid], [b"0123456789abcdef".contains(&byte); 2], "byte {byte}");
+        let value = b"0123456789abcdef".iter().position(|&digit| digit == byte);
+        let floor = shown(b"0101000f\nf000?\n0000\n", byte);
+        // The row of the pan has its number, and then its floor.
+        let row = floor.as_ref().map(|text| text.lines().nth(4).unwrap().split_whitespace());
+        assert_eq!(row.map(|mut row| row.nth(1).unwrap().parse().unwrap()), value, "byte {byte} in a floor");
+        let bid = shown(b"0101000f\nf0000\n000?\n", byte);
+        assert_eq!(bid.is_some(), value.is_some(), "byte {byte} in a bid");
     }
 }
 
