@@ -1,4 +1,4 @@
-//! Digits, for the tools: what the proved reader has taken for a number is turned into its value here.
+//! Digits, for the tools: the numbers of a sheet that the proved reader has taken, of a line of floors, and of what the proved code has written.
 
 /// The value of a byte as a digit: its place among the sixteen.
 pub(crate) fn digit_value(byte: u8) -> Option<u8> {

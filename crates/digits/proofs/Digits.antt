@@ -1,8 +1,8 @@
 -- What each byte is worth as a digit, the byte of a digit, and how many digits there are. Assumes nothing.
 use Prim.Native.Nat.{ℕ, zero, suc, _+_, _-_, _/_, _%_, _≤_, _<_}
-use mathlib.Core.Path.{_≡_, refl}
+use mathlib.Core.Path.{_≡_, refl, sym, ap}
 use mathlib.Core.List.{[], _∷_}
-use mathlib.Core.Option.{none, some}
+use mathlib.Core.Option.{Option, none, some, Option·getD}
 use native.Mathlib.Omega.{arith}
 use lib.ListN.{length, length-append}
 use borrow.Author.Tests.{lt-ltb, le-ltb, le-leb, lt-leb}
@@ -28,6 +28,10 @@ between b l h = simp (le-leb 48 b (omega arith), lt-leb b 57 l, lt-leb 97 b h)
 pub above : (b : ℕ) → 102 < b → digitValue b ≡ none
 unfolding digitValue
 above b l = simp (le-leb 48 b (omega arith), lt-leb b 57 (omega arith), le-leb 97 b (omega arith), lt-leb b 102 l)
+
+-- the code has 16 for none: what a value is, so is that
+pub or-sixteen : {o p : Option ℕ} → o ≡ p → Option·getD p 16 ≡ Option·getD o 16
+or-sixteen e = ap (λ (x : Option ℕ). Option·getD x 16) (sym e)
 
 -- the byte of a digit
 pub digit-low : (d : ℕ) → d < 10 → digit d ≡ 48 + d

@@ -1,12 +1,13 @@
 -- The digits by the ASCII table are the digits by the rule, at each of the 256 bytes: document 02, #105. Assumes nothing.
-use Prim.Native.Nat.{ℕ, _+_, _-_, _<_}
+use Prim.Native.Nat.{ℕ, _+_, _-_, _≤_, _<_}
 use mathlib.Core.Path.{_≡_, refl, sym, ap, _∙_}
 use mathlib.Core.Bool.{Bool, false, cond}
 use mathlib.Core.List.{List, [], _∷_}
-use mathlib.Core.Logic.{_⊎_, inl, inr}
+use mathlib.Core.Logic.{inl, inr, ⊎-elim}
 use mathlib.Core.Option.{Option, none, some}
 use native.Mathlib.Omega.{arith}
 use native.Mathlib.Nat.{zero-add}
+use native.Mathlib.Decide.{decLt}
 use lib.Dec.{eqb}
 use lib.ListN.{getD}
 use borrow.Author.Tests.{ne-eqb}
@@ -37,13 +38,31 @@ ascii-digits = record {
   letters = λ d l.
       let e : 97 + d - 87 ≡ 10 + d = omega arith in
       digit-table (97 + d) (omega arith) ∙ letter (97 + d) (omega arith) (omega arith) ∙ ap {B = Option ℕ} some e;
-  no-other = λ b l h. digit-table b l ∙ other b h;
+  no-other = λ b l h.
+      digit-table b (omega (arith, l)) ∙ ⊎-elim (λ k. below b (omega (arith, k))) (⊎-elim (λ k. between b (omega (arith, k .0)) (omega (arith, k .1))) (λ k. above b (omega (arith, k)))) h;
 }
+
+-- and leaves no byte open: whatever shows that gives the same values
+pub ascii-only : (value : ℕ → Option ℕ) → AsciiDigits value → (b : ℕ) → b < 256 → value b ≡ digitValue b
+ascii-only value shows b l = go (decLt b 48) (decLt 57 b) (decLt b 97) (decLt 102 b)
   where
-    other : (b : ℕ) → (b < 48) ⊎ ((57 < b) × (b < 97)) ⊎ (102 < b) → digitValue b ≡ none
-    other b (inl h) = below b h
-    other b (inr (inl h)) = between b (h .0) (h .1)
-    other b (inr (inr h)) = above b h
+    numeral : 48 ≤ b → b ≤ 57 → value b ≡ digitValue b
+    numeral lo hi =
+        let e : b ≡ 48 + (b - 48) = omega arith in
+        ap value e ∙ shows .numerals (b - 48) (omega arith) ∙ sym (decimal b lo hi)
+
+    small-letter : 97 ≤ b → b ≤ 102 → value b ≡ digitValue b
+    small-letter lo hi =
+        let e : b ≡ 97 + (b - 97) = omega arith in
+        let f : 10 + (b - 97) ≡ b - 87 = omega arith in
+        ap value e ∙ shows .letters (b - 97) (omega arith) ∙ ap {B = Option ℕ} some f ∙ sym (letter b lo hi)
+
+    go : Dec (b < 48) → Dec (57 < b) → Dec (b < 97) → Dec (102 < b) → value b ≡ digitValue b
+    go (yes p) q r s = shows .no-other b (omega arith) (inl (omega (arith, p))) ∙ sym (below b p)
+    go (no p) (no q) r s = numeral (omega arith) (omega arith)
+    go (no p) (yes q) (yes r) s = shows .no-other b (omega arith) (inr (inl (omega (arith, q), omega (arith, r)))) ∙ sym (between b q r)
+    go (no p) (yes q) (no r) (no s) = small-letter (omega arith) (omega arith)
+    go (no p) (yes q) (no r) (yes s) = shows .no-other b (omega arith) (inr (inr (omega (arith, s)))) ∙ sym (above b s)
 
 -- ---- a byte that is in no row
 

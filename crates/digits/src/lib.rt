@@ -52,6 +52,7 @@ fn digit_among(byte: u8, from: u8, known: u8) -> u8
 
 // The value of a byte as a digit, asked for in one half of the ASCII table and then in the other. Numerals stand close together in the first half, letters in the
 // second, and of cases close together the compiler makes a sum. Of all sixteen at once it makes a jump, and a sheet takes seven times as long to read.
+// It sees the cases only where they are asked for in one place of all the code (docs/DECISIONS.md, 81).
 fn digit_by_halves(byte: u8) -> u8
     ensures { λ r. ⌜ r ≡ Option·getD (digitValue byte) 16 ⌝ }
 {

@@ -1,14 +1,14 @@
 -- `digits::digit_by_halves` meets its contract: a byte below `from` has its value by then, and any other none yet. Assumes nothing.
 use Prim.Native.Nat.{ℕ, _+_, _-_, _≤_, _<_}
-use mathlib.Core.Path.{_≡_, refl, sym, ap, _∙_}
+use mathlib.Core.Path.{_≡_, refl, _∙_}
 use mathlib.Core.Logic.{⊎-elim}
-use mathlib.Core.Option.{Option, Option·getD}
+use mathlib.Core.Option.{Option·getD}
 use native.Mathlib.Omega.{arith}
 use native.Mathlib.Nat.{not-suc-le-zero}
 use borrow.Author.Needs.{needs}
 use Rattle.sets.proofs.Tests.{lt-or-le}
 use Rattle.digits.specs.Reading.{digitValue}
-use Rattle.digits.proofs.Digits.{above}
+use Rattle.digits.proofs.Digits.{above, or-sixteen}
 use Rattle.digits.proofs.digit_by_halves.Statement.{statement}
 use Rattle.digits.proofs.digit_by_halves.Tie as tie
 
@@ -43,7 +43,7 @@ returns : tie.Need-returns Inv-loop μ-loop
 returns c =
     let l = c .before .loop in
     let byte : ℕ = c .before .before .args .byte in
-    ⊎-elim (l .inv .0) (λ h. l .inv .1 h ∙ ap (λ (o : Option ℕ). Option·getD o 16) (sym (above byte (omega (arith, h))))) (lt-or-le byte (l .from))
+    ⊎-elim (l .inv .0) (λ h. l .inv .1 h ∙ or-sixteen (above byte (omega (arith, h)))) (lt-or-le byte (l .from))
 
 pub digit-by-halves-spec : {M : Type 1} → statement M
 digit-by-halves-spec =

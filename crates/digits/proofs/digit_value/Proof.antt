@@ -6,16 +6,14 @@ use native.Mathlib.Omega.{arith}
 use borrow.Author.Needs.{needs}
 use Rattle.digits.specs.Reading.{digitValue}
 use Rattle.digits.specs.Table.{digitTable, beside, byTable}
+use Rattle.digits.proofs.Digits.{or-sixteen}
 use Rattle.digits.proofs.Table.{digit-table, in-no-row}
 use Rattle.digits.proofs.digit_value.Statement.{statement}
 use Rattle.digits.proofs.digit_value.Tie as tie
 
 -- what the table gives, or 16, is also what the rule gives
 given : (b : ℕ) (o : Option ℕ) → b < 256 → byTable b ≡ o → (Option·getD o 16 ≡ Option·getD (digitValue b) 16) × (Option·getD o 16 ≡ Option·getD (byTable b) 16)
-given b o l e = (or-none (sym (digit-table b l) ∙ e), or-none e)
-  where
-    or-none : {p : Option ℕ} → p ≡ o → Option·getD o 16 ≡ Option·getD p 16
-    or-none q = ap (λ (x : Option ℕ). Option·getD x 16) (sym q)
+given b o l e = (or-sixteen (sym (digit-table b l) ∙ e), or-sixteen e)
 
 -- a case: a byte w, which the table says is worth d
 case : (b w d : ℕ) → b < 256 → b ≡ w → byTable w ≡ some d → (d ≡ Option·getD (digitValue b) 16) × (d ≡ Option·getD (byTable b) 16)
