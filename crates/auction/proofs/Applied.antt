@@ -14,6 +14,7 @@ use Rattle.rule.specs.Excess.{bidders, crowded, inExcess, inPositiveExcess, exc
 use Rattle.rule.specs.Round.{raise, lower, closed, roundFalling, round, State, move, roundAt, after, opening, path, mostRounds, close}
 use Rattle.rule.specs.Assignment.{option, holders, isAssignment, fits, someList, choose, assignment}
 use Rattle.rule.specs.Closing.{roundOf}
+use Rattle.rule.specs.Gains.{gain, gainsAt}
 use Rattle.rule.specs.FallingFirst.{roundRising, fallingRound, fallingRoundAt, fallingPath, fallingClose, fallingRoundOf}
 use Rattle.rule.specs.Refusal.{first, badItems, badBidders, badLength, anyOver, anyUnder, badFloors}
 use Rattle.rule.proofs.Path.{after-add, after-closed}
@@ -26,7 +27,7 @@ use Rattle.auction.specs.declared.Closing.{Closing}
 
 -- the definitions that the cases compute with
 computing : Unit {0}
-unfolding allBelow anyBelow count bit isSet has setOf each any size lowest largestBelow largest tabulate places amount row surplusAtLeast best demand demands wants nth bidders crowded inExcess inPositiveExcess excessDemand positiveExcessDemand excessSupply aboveFloors raise lower roundFalling round move roundAt after opening path roundRising fallingRound fallingRoundAt fallingPath option holders isAssignment fits someList choose assignment
+unfolding allBelow anyBelow count bit isSet has setOf each any size lowest largestBelow largest tabulate places amount row surplusAtLeast best demand demands wants nth bidders crowded inExcess inPositiveExcess excessDemand positiveExcessDemand excessSupply aboveFloors raise lower roundFalling round move roundAt after opening path roundRising fallingRound fallingRoundAt fallingPath option holders isAssignment fits someList choose assignment gain gainsAt
 computing = tt
 
 -- and those by which lent numbers are a sheet, or are turned down
@@ -47,9 +48,9 @@ bids = 2 ∷ 6 ∷ 3 ∷ 7 ∷ 6 ∷ 7 ∷ []
 abbrev six : Sheet
 six = record { items = 2; start = start; floors = floors; bids = (2 ∷ 6 ∷ []) ∷ (3 ∷ 7 ∷ []) ∷ (6 ∷ 7 ∷ []) ∷ [] }
 
--- an outcome at (2, 6), with the names 0, 2 and 1
+-- an outcome at (2, 6), with the names 0, 2 and 1 and the gains 0, 1 and 4
 abbrev lets : (raised lowered : ℕ) → Closing
-lets raised lowered = record { refusal = 0; raised = raised; lowered = lowered; prices = 2 ∷ 6 ∷ replicate 30 0; assignment = 0 ∷ 2 ∷ 1 ∷ replicate 61 0 }
+lets raised lowered = record { refusal = 0; raised = raised; lowered = lowered; prices = 2 ∷ 6 ∷ replicate 30 0; assignment = 0 ∷ 2 ∷ 1 ∷ replicate 61 0; gains = 0 ∷ 1 ∷ 4 ∷ replicate 61 0 }
 
 abbrev at : State → Closing
 at t = namedAt six (t .ups) (t .downs) (t .prices)
@@ -94,7 +95,7 @@ rising-six = ap at rises-stay ∙ rises-to
 -- ---- beside a number there are zeros only: a starting price too high, one below its floor, a bid too high, a bid missing
 
 abbrev turnedDown : ℕ → Closing
-turnedDown why = record { refusal = why; raised = 0; lowered = 0; prices = replicate 32 0; assignment = replicate 64 0 }
+turnedDown why = record { refusal = why; raised = 0; lowered = 0; prices = replicate 32 0; assignment = replicate 64 0; gains = replicate 64 0 }
 
 pub falling-refused : (fallingFirstOf 2 3 (4096 ∷ 4 ∷ []) floors bids ≡ turnedDown 4) × (fallingFirstOf 2 3 (0 ∷ 4 ∷ []) floors (4096 ∷ 6 ∷ 3 ∷ 7 ∷ 6 ∷ 7 ∷ []) ≡ turnedDown 18)
     × (fallingFirstOf 2 3 start floors (4096 ∷ 6 ∷ 3 ∷ 7 ∷ 6 ∷ 7 ∷ []) ≡ turnedDown 5) × (fallingFirstOf 2 3 start floors (2 ∷ 6 ∷ 3 ∷ 7 ∷ 6 ∷ []) ≡ turnedDown 3)

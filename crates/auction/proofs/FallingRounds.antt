@@ -5,9 +5,8 @@ use mathlib.Core.Path.{_≡_, sym, ap, _∙_}
 use mathlib.Core.List.{List}
 use lib.ListN.{length}
 use Rattle.sets.specs.Lists.{places}
-use Rattle.rule.specs.Sheet.{Sheet, amount}
+use Rattle.rule.specs.Sheet.{Sheet, amount, greatest}
 use Rattle.rule.specs.Round.{State, close}
-use Rattle.rule.specs.Equilibrium.{greatest}
 use Rattle.rule.specs.FallingFirst.{fallingClose, FallingClosing}
 use Rattle.rule.specs.Reduced.{reducedBids}
 use Rattle.least.specs.Least.{Least}

@@ -12,10 +12,12 @@ use Rattle.sets.proofs.Counting.{below-suc}
 use Rattle.sets.proofs.Lists.{tabulate-same, is-tabulate}
 use Rattle.rule.specs.Sheet.{amount, Sheet}
 use Rattle.rule.specs.Equilibrium.{Below}
-use Rattle.rule.specs.Reduced.{surplus, reducedLine, reducedBids, reduced}
+use Rattle.rule.specs.Demand.{surplus}
+use Rattle.rule.specs.Reduced.{reducedLine, reducedBids, reduced}
 use Rattle.rule.proofs.Limits.{Limits, limits, startingAt, starting-limits}
 use Rattle.rule.proofs.Reduced.{same-reduced, reduced-limits}
 use Rattle.prices.proofs.Moving.{places-amount}
+use Rattle.round.proofs.Reporting.{map-tabulate}
 use Rattle.bids.specs.Lent.{lineOf, rowsOf, sheetAbove}
 use Rattle.bids.specs.Fit.{Fit}
 use Rattle.bids.specs.Refusal.{sealedAboveRefusal}
@@ -28,11 +30,6 @@ use Rattle.demands.specs.Demands.{surplusOf}
 use Rattle.demands.proofs.Surplus.{line-surplus}
 use Rattle.demands.proofs.Demanding.{few}
 use Rattle.auction.specs.Reduced.{ReducedTo, ReducedLines}
-
-map-tabulate : (f : List ℕ → List ℕ) (n : ℕ) (g : ℕ → List ℕ) (i : ℕ) → map f (tabulate n g i) ≡ tabulate n (λ k. f (g k)) i
-unfolding tabulate
-map-tabulate f zero g i = refl
-map-tabulate f (suc n) g i = ap (λ (xs : List (List ℕ)). f (g i) ∷ xs) (map-tabulate f n g (suc i))
 
 -- ---- one line
 
@@ -111,7 +108,7 @@ module _ {m n : ℕ} {bids : List ℕ} (f : Fit m n bids) (prices : List ℕ) wh
 
     pub rows-are : rowsOf m n less ≡ reducedBids m prices (rowsOf m n bids)
     unfolding rowsOf reducedBids
-    rows-are = tabulate-same n (lineOf m less) (λ b. reducedLine m prices (lineOf m bids b)) less-line ∙ sym (map-tabulate (reducedLine m prices) n (lineOf m bids) 0)
+    rows-are = tabulate-same n (lineOf m less) (λ b. reducedLine m prices (lineOf m bids b)) less-line ∙ map-tabulate (reducedLine m prices) n (lineOf m bids) 0
 
 -- ---- with reduced bids, and from the floors up, no number turns the sheet down
 

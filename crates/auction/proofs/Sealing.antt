@@ -7,19 +7,21 @@ use native.Mathlib.Omega.{arith}
 use lib.ListN.{length, replicate}
 use Rattle.sets.specs.Lists.{places}
 use Rattle.rule.specs.Sheet.{Sheet, withinLimits}
-use Rattle.rule.specs.Demand.{demands}
+use Rattle.rule.specs.Demand.{demands, surpluses}
 use Rattle.rule.specs.Excess.{aboveFloors}
 use Rattle.rule.specs.Round.{State, close}
 use Rattle.rule.specs.Assignment.{assignment}
 use Rattle.rule.specs.Refusal.{badItems}
-use Rattle.rule.specs.Closing.{assignmentAt}
+use Rattle.rule.specs.Closing.{FitsAt, assignmentAt}
 use Rattle.rule.specs.Closing as rule
+use Rattle.rule.specs.Gains.{gainsAt, Gains}
 use Rattle.rule.specs.FallingFirst.{fallingClose, FallingClosing}
 use Rattle.rule.proofs.Closing.{closing}
+use Rattle.rule.proofs.Gains.{gains}
 use Rattle.rule.proofs.FallingClosing.{falling-closing}
 use Rattle.rule.proofs.Refusal.{given, over-range}
 use Rattle.round.specs.Reports.{reports, Reported}
-use Rattle.prices.proofs.Moving.{demands-places}
+use Rattle.prices.proofs.Moving.{demands-places, surpluses-places}
 use Rattle.round.proofs.Narrowing.{aboveFloors-lt}
 use Rattle.assignment.specs.Assigned.{assigned}
 use Rattle.assignment.proofs.Unfit.{assigned-is}
@@ -117,6 +119,8 @@ promise s e = by (closing s e)
           lowered = ap (λ (t : State). t .downs) (c .close-is);
           prices = ap (λ (t : State). places 32 (t .prices)) (c .close-is);
           names = ap (λ (t : State). places 64 (assignmentAt s (t .prices))) (c .close-is);
+          gains = ap (λ (t : State). places 64 (gainsAt s (t .prices))) (c .close-is);
+          gaining = gains s (c .prices) (c .fitting);
         }
 
 promise-falling : (s : Sheet) → withinLimits s ≡ true → PromisedFalling s (fallingClosed s)
@@ -133,8 +137,11 @@ promise-falling s e = by (falling-closing s e)
           lowered = ap (λ (t : State). t .downs) (c .close-is);
           prices = ap (λ (t : State). places 32 (t .prices)) (c .close-is);
           names = ap (λ (t : State). places 64 (assignmentAt s (t .prices))) (c .close-is);
+          gains = ap (λ (t : State). places 64 (gainsAt s (t .prices))) (c .close-is);
+          gaining = subst (Gains s) (sym (c .same-prices)) (gains s (c .rising-first .prices) (c .rising-first .fitting));
           same-prices = ap (places 32) same;
           same-names = ap (λ (p : List ℕ). places 64 (assignmentAt s p)) same;
+          same-gains = ap (λ (p : List ℕ). places 64 (gainsAt s p)) same;
         }
 
 -- an outcome without a number promises all that demand 3 asks of its sheet
@@ -164,7 +171,8 @@ accepted-promised m n start bids e = sealed-promised m n start bids (sealedOf m 
 
 module _ (m n : ℕ) (floors bids q : List ℕ) (lm : m ≤ 32) (low-long : length floors ≡ m) (long : length q ≡ m)
     (p low sets : List ℕ) (nulls above : ℕ) (ep : p ≡ places 32 q) (el : low ≡ places 32 floors) (ea : above ≡ aboveFloors 32 low p)
-    (rep : Reported m n sets) (same : reports n sets nulls ≡ demands m (rowsOf m n bids) p) where
+    (rep : Reported m n sets) (same : reports n sets nulls ≡ demands m (rowsOf m n bids) p)
+    (tops : List ℕ) (highest : tops ≡ places 64 (surpluses m (rowsOf m n bids) p)) where
   above-is : above ≡ aboveFloors m floors q
   above-is = ea ∙ ap₂ (aboveFloors 32) el ep ∙ aboveFloors-wide m lm floors q low-long long
 
@@ -178,30 +186,52 @@ module _ (m n : ℕ) (floors bids q : List ℕ) (lm : m ≤ 32) (low-long : leng
   names-at =
       sym (assigned-is sets nulls above n (rep .max-bidders)) ∙ ap (places 64) (assignment-narrow m n sets rep nulls above above-lt ∙ ap₂ (assignment m) above-is reports-are)
 
-  pub named-is : (u k : ℕ) (names : List ℕ) → names ≡ assigned sets nulls above n
-      → _≡_ {A = Closing} (record { refusal = 0; raised = u; lowered = k; prices = p; assignment = names }) (namedAt (sheetAbove m n q floors bids) u k q)
+  abbrev at : Sheet
+  at = sheetAbove m n q floors bids
+
+  gains-at : FitsAt (sheetAbove m n q floors bids) q (assignmentAt (sheetAbove m n q floors bids) q) → tops ≡ places 64 (gainsAt (sheetAbove m n q floors bids) q)
   unfolding sheetAbove
-  named-is u k names en = ap₂ (λ (y z : List ℕ). record { refusal = 0; raised = u; lowered = k; prices = y; assignment = z }) ep (en ∙ names-at)
+  gains-at fitting =
+      highest
+      ∙ ap (λ (r : List ℕ). places 64 (surpluses m (rowsOf m n bids) r)) ep
+      ∙ ap (places 64) (surpluses-places m lm q long (rowsOf m n bids) ∙ sym (gains at q fitting .found))
+
+  pub named-is : FitsAt (sheetAbove m n q floors bids) q (assignmentAt (sheetAbove m n q floors bids) q) → (u k : ℕ) (names : List ℕ) → names ≡ assigned sets nulls above n
+      → _≡_ {A = Closing} (record { refusal = 0; raised = u; lowered = k; prices = p; assignment = names; gains = tops }) (namedAt (sheetAbove m n q floors bids) u k q)
+  unfolding sheetAbove
+  named-is fitting u k names en =
+      ap₂ (λ (y z : List ℕ). record { refusal = 0; raised = u; lowered = k; prices = y; assignment = z; gains = tops }) ep (en ∙ names-at)
+      ∙ ap (λ (y : List ℕ). record { refusal = 0; raised = u; lowered = k; prices = places 32 q; assignment = places 64 (assignmentAt at q); gains = y }) (gains-at fitting)
 
 -- ---- the code's steps
 
 -- names do not go by the starting prices
 named-any : (m n : ℕ) (start floors bids : List ℕ) (u k : ℕ) (q : List ℕ) → namedAt (sheetAbove m n q floors bids) u k q ≡ namedAt (sheetAbove m n start floors bids) u k q
-unfolding sheetAbove
+unfolding sheetAbove gainsAt
 named-any m n start floors bids u k q = refl
 
 -- what `named` answers to rounds and prices
 module _ (m n : ℕ) (start floors bids : List ℕ) (z : sealedAboveRefusal m n start floors bids ≡ 0) (u k : ℕ) (p : List ℕ) (r : Closing)
-    (named : (q : List ℕ) → length q ≡ m → p ≡ places 32 q → r ≡ namedAt (sheetAbove m n q floors bids) u k q)
+    (named : (q : List ℕ) → length q ≡ m → p ≡ places 32 q → FitsAt (sheetAbove m n q floors bids) q (assignmentAt (sheetAbove m n q floors bids) q)
+    → r ≡ namedAt (sheetAbove m n q floors bids) u k q)
     (ep : p ≡ places 32 (close (sheetAbove m n start floors bids) .prices)) where
   abbrev s : Sheet
   s = sheetAbove m n start floors bids
 
   closing-is : r ≡ namedAt (sheetAbove m n start floors bids) u k (close (sheetAbove m n start floors bids) .prices)
-  closing-is = named (close s .prices) long ep ∙ named-any m n start floors bids u k (close s .prices)
+  closing-is = named (close s .prices) long ep fitting ∙ named-any m n start floors bids u k (close s .prices)
     where
+      within : withinLimits (sheetAbove m n start floors bids) ≡ true
+      within = accepted-within m n start floors bids z .1
+
+      c : rule.Closing (sheetAbove m n start floors bids)
+      c = closing (sheetAbove m n start floors bids) within
+
+      fitting : FitsAt (sheetAbove m n (close s .prices) floors bids) (close s .prices) (assignmentAt (sheetAbove m n (close s .prices) floors bids) (close s .prices))
+      fitting = unfold sheetAbove in subst (λ (t : State). FitsAt s (t .prices) (assignmentAt s (t .prices))) (sym (c .close-is)) (c .fitting)
+
       long : length (close (sheetAbove m n start floors bids) .prices) ≡ m
-      long = unfold sheetAbove in close-long (sheetAbove m n start floors bids) (ready (sheetAbove m n start floors bids) (accepted-within m n start floors bids z .1))
+      long = unfold sheetAbove in close-long (sheetAbove m n start floors bids) (ready (sheetAbove m n start floors bids) within)
 
   pub sealed-is : u ≡ close (sheetAbove m n start floors bids) .ups → k ≡ close (sheetAbove m n start floors bids) .downs → r ≡ sealedAboveOf m n start floors bids
   sealed-is eu ek = closing-is ∙ ap₂ (λ (x y : ℕ). namedAt s x y (close s .prices)) eu ek ∙ (unfold closed in above-closed m n start floors bids z)

@@ -9,10 +9,9 @@ use native.Mathlib.Nat.{zero-add}
 use lib.ListN.{length, getD, List·getD-eq-default}
 use Rattle.sets.specs.Lists.{places}
 use Rattle.sets.proofs.Lists.{is-tabulate}
-use Rattle.rule.specs.Sheet.{Sheet, amount, withinLimits}
+use Rattle.rule.specs.Sheet.{Sheet, amount, withinLimits, greatest}
 use Rattle.rule.specs.Excess.{aboveFloors}
 use Rattle.rule.specs.Round.{State, close}
-use Rattle.rule.specs.Equilibrium.{greatest}
 use Rattle.rule.specs.Closing.{Closing}
 use Rattle.rule.proofs.Limits.{Limits, limits, amount-beyond}
 use Rattle.rule.proofs.Closing.{closing-of}

@@ -3,7 +3,7 @@ use Prim.Native.Nat.{ℕ, _+_, _-_, _*_, _<_}
 use mathlib.Core.Path.{_≡_}
 use mathlib.Core.List.{List}
 use lib.ListN.{length, getD}
-use Rattle.rule.specs.Reduced.{surplus}
+use Rattle.rule.specs.Demand.{surplus}
 use Rattle.bids.specs.Lent.{lineOf}
 
 -- from place `at` on, the first k places of the line are filled: its bids less the surplus

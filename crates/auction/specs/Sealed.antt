@@ -1,4 +1,4 @@
--- The sealed auction: document 01, "What demand 3 speaks of"; with floors, document 02, #103; falling first, #104. Assumes nothing: these are definitions.
+-- The sealed auction: document 01, "What demand 3 speaks of"; with floors, document 02, #103; falling first, #104; gains, #106. Assumes nothing: these are definitions.
 use Prim.Native.Nat.{ℕ, zero, suc}
 use mathlib.Core.Path.{_≡_}
 use mathlib.Core.Bool.{true}
@@ -9,6 +9,7 @@ use Rattle.rule.specs.Sheet.{Sheet, withinLimits}
 use Rattle.rule.specs.Round.{close}
 use Rattle.rule.specs.Closing.{assignmentAt}
 use Rattle.rule.specs.Closing as rule
+use Rattle.rule.specs.Gains.{gainsAt, Gains}
 use Rattle.rule.specs.FallingFirst.{fallingClose, FallingClosing}
 use Rattle.bids.specs.Lent.{sheetAbove, sheetOf}
 use Rattle.bids.specs.Refusal.{sealedAboveRefusal, sealedRefusal}
@@ -16,12 +17,19 @@ use Rattle.auction.specs.declared.Closing.{Closing}
 
 -- beside a number, zeros only
 unfoldable pub refused : ℕ → Closing
-refused why = record { refusal = why; raised = 0; lowered = 0; prices = replicate 32 0; assignment = replicate 64 0 }
+refused why = record { refusal = why; raised = 0; lowered = 0; prices = replicate 32 0; assignment = replicate 64 0; gains = replicate 64 0 }
 
--- what is said of a close: rounds raised, rounds lowered, the closing prices in 32 places, the names at them in 64
+-- what is said of a close: rounds raised, rounds lowered, the closing prices in 32 places, the names at them and each bidder's gain from them in 64
 abbrev pub namedAt : Sheet → (raised lowered : ℕ) (prices : List ℕ) → Closing
 namedAt s raised lowered prices =
-    record { refusal = 0; raised = raised; lowered = lowered; prices = places 32 prices; assignment = places 64 (assignmentAt s prices) }
+    record {
+      refusal = 0;
+      raised = raised;
+      lowered = lowered;
+      prices = places 32 prices;
+      assignment = places 64 (assignmentAt s prices);
+      gains = places 64 (gainsAt s prices);
+    }
 
 -- the close of a sheet's path, and of its path falling first
 unfoldable pub closed : Sheet → Closing
@@ -46,8 +54,8 @@ sealedOf m n start bids = outcome (sealedRefusal m n start bids) (closed (sheetO
 unfoldable pub fallingFirstOf : ℕ → ℕ → (start floors bids : List ℕ) → Closing
 fallingFirstOf m n start floors bids = outcome (sealedAboveRefusal m n start floors bids) (fallingClosed (sheetAbove m n start floors bids))
 
--- an outcome that stands for its sheet: the sheet is within the limits, and rounds, prices and names are those of its closing, of which the rule's
--- `Closing` says all that demand 3 asks
+-- an outcome that stands for its sheet: the sheet is within the limits, and rounds, prices, names and gains are those of its closing, of which the rule's
+-- `Closing` says all that demand 3 asks, and `Gains` all that document 02, #106, does
 pub record Promised (s : Sheet) (r : Closing) : Type 0 where
   pub within : withinLimits s ≡ true
   pub closing : rule.Closing s
@@ -55,8 +63,10 @@ pub record Promised (s : Sheet) (r : Closing) : Type 0 where
   pub lowered : r .lowered ≡ closing .downs
   pub prices : r .prices ≡ places 32 (closing .prices)
   pub names : r .assignment ≡ places 64 (assignmentAt s (closing .prices))
+  pub gains : r .gains ≡ places 64 (gainsAt s (closing .prices))
+  pub gaining : Gains s (closing .prices)
 
--- falling first: rounds, prices and names are those of its closing, and prices and names those of rising first
+-- falling first: rounds, prices, names and gains are those of its closing, and all but the rounds those of rising first
 pub record PromisedFalling (s : Sheet) (r : Closing) : Type 0 where
   pub within : withinLimits s ≡ true
   pub closing : FallingClosing s
@@ -64,5 +74,8 @@ pub record PromisedFalling (s : Sheet) (r : Closing) : Type 0 where
   pub lowered : r .lowered ≡ closing .downs
   pub prices : r .prices ≡ places 32 (closing .prices)
   pub names : r .assignment ≡ places 64 (assignmentAt s (closing .prices))
+  pub gains : r .gains ≡ places 64 (gainsAt s (closing .prices))
+  pub gaining : Gains s (closing .prices)
   pub same-prices : r .prices ≡ closed s .prices
   pub same-names : r .assignment ≡ closed s .assignment
+  pub same-gains : r .gains ≡ closed s .gains

@@ -4,9 +4,9 @@ ghost use mathlib.Core.List.{List};
 ghost use Prim.Native.Nat.{ℕ, _+_, _-_, _≤_, _<_};
 ghost use lib.ListN.{length};
 ghost use Rattle.sets.specs.Lists.{places};
-ghost use Rattle.rule.specs.Sheet.{amount};
+ghost use Rattle.rule.specs.Sheet.{amount, greatest};
 ghost use Rattle.rule.specs.Round.{close};
-ghost use Rattle.rule.specs.Equilibrium.{greatest};
+ghost use Rattle.rule.specs.Closing.{FitsAt, assignmentAt};
 ghost use Rattle.rule.specs.FallingFirst.{fallingClose};
 ghost use Rattle.bids.specs.Lent.{rowsOf, sheetAbove, sheetOf};
 ghost use Rattle.bids.specs.Fit.{Fit};
@@ -117,13 +117,14 @@ fn falling_rounds(start: &[u16], floors: &[u16], bids: &[u16], items: usize, bid
 // ---- the sealed auction
 
 // The close of a sealed auction: the number that turned it down, or 0; rounds raised and lowered; the closing prices; each bidder's item,
-// or 0 for null.
+// or 0 for null; each bidder's gain, which is the bid less the price of that item, and 0 of null.
 pub struct Closing {
     pub refusal: u8,
     pub raised: u32,
     pub lowered: u32,
     pub prices: [u16; 32],
     pub assignment: [u8; 64],
+    pub gains: [u16; 64],
 }
 
 // Beside a number, zeros only.
@@ -136,17 +137,21 @@ fn refused(why: u8) -> Closing
         lowered: 0,
         prices: [0; 32],
         assignment: [0; 64],
+        gains: [0; 64],
     }
 }
 
-// The outcome with these rounds and closing prices: the names are the first in order at them.
+// The outcome with these rounds and closing prices: the names are the first in order at them, and who has an option of their demand gains their highest surplus,
+// which was found with it.
 fn named(path: Path, floors: &[u16], bids: &[u16], items: usize, bidders: usize) -> Closing
     requires { ⌜ Fit items bidders (now bids) × (length (now floors) ≡ items) ⌝ }
     ensures { λ r. ⌜ ((q : List ℕ) → length q ≡ items → path .prices ≡ places 32 q
+        → FitsAt (sheetAbove items bidders q (now (floors .entry)) (now (bids .entry))) q (assignmentAt (sheetAbove items bidders q (now (floors .entry)) (now (bids .entry))) q)
         → r ≡ namedAt (sheetAbove items bidders q (now (floors .entry)) (now (bids .entry))) (path .raised) (path .lowered) q) ⌝ }
 {
     let last = path.prices;
     let d = demands::demands_at(&last, bids, items, bidders);
+    let surpluses = d.surpluses;
     let low = prices::in_places(floors);
     let names = assignment::first(&d.sets, d.nulls, round::above_floors(&low, &last), bidders);
     Closing {
@@ -155,6 +160,7 @@ fn named(path: Path, floors: &[u16], bids: &[u16], items: usize, bidders: usize)
         lowered: path.lowered,
         prices: last,
         assignment: names,
+        gains: surpluses,
     }
 }
 

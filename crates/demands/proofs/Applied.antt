@@ -7,16 +7,14 @@ use lib.ListN.{take, replicate}
 use Rattle.sets.specs.Count.{allBelow}
 use Rattle.sets.specs.Bit.{setOf, each}
 use Rattle.sets.specs.Lists.{tabulate, places}
-use Rattle.rule.specs.Sheet.{amount}
-use Rattle.rule.specs.Demand.{surplusAtLeast, best, Demand, demand, demands, nth}
-use Rattle.rule.specs.Equilibrium.{greatest}
-use Rattle.rule.specs.Reduced.{surplus}
+use Rattle.rule.specs.Sheet.{amount, greatest}
+use Rattle.rule.specs.Demand.{surplusAtLeast, best, surplus, Demand, demand, demands, surpluses, nth}
 use Rattle.bids.specs.Lent.{lineOf, rowsOf}
-use Rattle.demands.specs.Demands.{surplusOf, complete, demandsOf, held}
+use Rattle.demands.specs.Demands.{surplusOf, complete, demandsOf, surplusesOf, held}
 
 -- the definitions that the cases compute with
 computing : Unit {0}
-unfolding allBelow setOf each tabulate places amount surplusAtLeast best demand demands nth lineOf rowsOf greatest surplus surplusOf complete demandsOf held
+unfolding allBelow setOf each tabulate places amount surplusAtLeast best demand demands surpluses nth lineOf rowsOf greatest surplus surplusOf complete demandsOf surplusesOf held
 computing = tt
 
 -- the most items and bidders, and one more of each
@@ -42,25 +40,33 @@ unfolding computing
 bid-left-over = refl
 
 -- one item at 1 and a bidder who bids 2; without the bid there is nobody
-pub somebody : demandsOf 1 1 (1 ∷ []) (2 ∷ []) ≡ record { null = false; items = 1 } ∷ []
+pub somebody : (demandsOf 1 1 (1 ∷ []) (2 ∷ []) ≡ record { null = false; items = 1 } ∷ []) × (surplusesOf 1 1 (1 ∷ []) (2 ∷ []) ≡ 1 ∷ [])
 unfolding computing
-somebody = refl
+somebody = (refl, refl)
 
 pub nobody : demandsOf 1 1 (1 ∷ []) [] ≡ []
 unfolding computing
 nobody = refl
 
+pub no-surplus : surplusesOf 1 1 (1 ∷ []) [] ≡ []
+unfolding computing
+no-surplus = refl
+
 -- bidder 1 demands item 1, bidder 2 item 2 and null
 abbrev two : List Demand
 two = record { null = false; items = 1 } ∷ record { null = true; items = 2 } ∷ []
 
-pub sets-held : take 3 (held two .sets) ≡ 1 ∷ 2 ∷ 0 ∷ []
+pub sets-held : take 3 (held two [] .sets) ≡ 1 ∷ 2 ∷ 0 ∷ []
 unfolding computing
 sets-held = refl
 
-pub null-held : held two .nulls ≡ 2
+pub null-held : held two [] .nulls ≡ 2
 unfolding computing
 null-held = refl
+
+pub surpluses-held : take 3 (held two (5 ∷ 0 ∷ []) .surpluses) ≡ 5 ∷ 0 ∷ 0 ∷ []
+unfolding computing
+surpluses-held = refl
 
 -- bids of 3 and 4 at prices of 1 and 3: the first gives more; of 32 bids the last counts, and 33 are too many
 pub first-more : surplusOf (1 ∷ 3 ∷ []) (3 ∷ 4 ∷ []) ≡ 2

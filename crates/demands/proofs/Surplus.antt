@@ -11,10 +11,8 @@ use lib.ListN.{length, getD}
 use borrow.Author.Tests.{eq-eqb, ne-eqb, le-leb, lt-leb}
 use Rattle.sets.proofs.Counting.{is-false}
 use Rattle.rule.specs.Sheet.{amount}
-use Rattle.rule.specs.Demand.{best, demand}
-use Rattle.rule.specs.Reduced.{surplus}
-use Rattle.rule.proofs.Zeros.{best-use, best-make}
-use Rattle.rule.proofs.Reduced.{surplus-most, surplus-some}
+use Rattle.rule.specs.Demand.{best, surplus, demand}
+use Rattle.rule.proofs.Highest.{surplus-best, best-surplus}
 use Rattle.demands.specs.Demands.{surplusOf}
 
 -- item i is bid for, and of the highest surplus
@@ -22,13 +20,12 @@ abbrev pub demandedAt : (m : ℕ) (p b : List ℕ) → ℕ → Bool
 demandedAt m p b i = ltb 0 (amount b i) && best m p b i
 
 module _ (m : ℕ) (p b : List ℕ) (x : ℕ) (e : x ≡ surplus m p b) where
-  -- who has the highest surplus is best
+  -- who has the highest surplus is best, and the best has it
   is-best : (i : ℕ) → amount b i ≡ amount p i + x → best m p b i ≡ true
-  is-best i h = best-make m p b i (λ j l. omega (arith, h, e, surplus-most m p b j l))
+  is-best i h = surplus-best m p b i (omega (arith, h, e))
 
-  -- and the best has it
   best-is : (i : ℕ) → i < suc m → best m p b i ≡ true → amount b i ≡ amount p i + x
-  best-is i l h = let w = surplus-some m p b in omega (arith, e, surplus-most m p b i l, best-use m p b i h (w .0) (w .1), w .2)
+  best-is i l h = omega (arith, e, best-surplus m p b i l h)
 
   test-is : (i : ℕ) → i < suc m → eqb (amount b i) (amount p i + x) ≡ best m p b i
   test-is i l = go (ℕ-discrete (amount b i) (amount p i + x))

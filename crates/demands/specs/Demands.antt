@@ -6,8 +6,7 @@ use lib.Dec.{leb, eqb}
 use lib.ListN.{length}
 use Rattle.sets.specs.Bit.{setOf}
 use Rattle.sets.specs.Lists.{places}
-use Rattle.rule.specs.Demand.{Demand, demands, nth}
-use Rattle.rule.specs.Reduced.{surplus}
+use Rattle.rule.specs.Demand.{Demand, surplus, demands, surpluses, nth}
 use Rattle.bids.specs.Lent.{rowsOf}
 use Rattle.demands.specs.declared.Demands.{Demands}
 
@@ -19,10 +18,13 @@ complete m n long = leb m 32 && leb n 64 && eqb long (n * m)
 unfoldable pub surplusOf : (prices line : List ℕ) → ℕ
 surplusOf prices line = cond (leb (length line) 32) (surplus (length line) prices line) 0
 
--- the demands of n bidders for m items; of nobody where the bids are not complete
+-- the demands of n bidders for m items, and their highest surpluses; of nobody where the bids are not complete
 unfoldable pub demandsOf : (m n : ℕ) (prices bids : List ℕ) → List Demand
 demandsOf m n prices bids = cond (complete m n (length bids)) (demands m (rowsOf m n bids) prices) []
 
--- demands as the code holds them: an item set in each of 64 places, zeros past the last bidder, and the set of the bidders who demand null
-unfoldable pub held : List Demand → Demands
-held ds = record { sets = places 64 (map (λ d. d .items) ds); nulls = setOf (length ds) λ b. nth ds (b - 1) .null }
+unfoldable pub surplusesOf : (m n : ℕ) (prices bids : List ℕ) → List ℕ
+surplusesOf m n prices bids = cond (complete m n (length bids)) (surpluses m (rowsOf m n bids) prices) []
+
+-- both as the code holds them: an item set and a surplus in each of 64 places, zeros past the last bidder, and the set of the bidders who demand null
+unfoldable pub held : List Demand → (surpluses : List ℕ) → Demands
+held ds xs = record { sets = places 64 (map (λ d. d .items) ds); nulls = setOf (length ds) λ b. nth ds (b - 1) .null; surpluses = places 64 xs }

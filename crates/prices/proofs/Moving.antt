@@ -15,8 +15,8 @@ use Rattle.sets.specs.Lists.{tabulate, places}
 use Rattle.sets.proofs.Counting.{lt-or-le}
 use Rattle.sets.proofs.Lists.{tabulate-length, tabulate-at, tabulate-shift, places-length, places-at, is-tabulate}
 use Rattle.sets.proofs.Members.{has-past}
-use Rattle.rule.specs.Sheet.{amount}
-use Rattle.rule.specs.Demand.{surplusAtLeast, best, demand, demands}
+use Rattle.rule.specs.Sheet.{amount, greatest}
+use Rattle.rule.specs.Demand.{surplusAtLeast, best, surplus, demand, demands, surpluses}
 use Rattle.rule.specs.Excess.{aboveFloors}
 use Rattle.rule.specs.Round.{raise, lower}
 use Rattle.prices.specs.Prices.{raisePlaces}
@@ -53,6 +53,10 @@ module _ (p q : List ℕ) (h : (i : ℕ) → amount p i ≡ amount q i) where
       ap (λ (f : ℕ → ℕ). map (λ b. record { null = each m (λ j. leb (amount b j + f 0) (amount b 0 + f j)); items = setOf m (λ i. ltb 0 (amount b i) && each m (λ j. leb (amount b j + f i) (amount b i + f j))) }) bids)
       (fun-ext h)
 
+  pub surpluses-same : (m : ℕ) (bids : List (List ℕ)) → surpluses m bids p ≡ surpluses m bids q
+  unfolding surpluses surplus
+  surpluses-same m bids = ap (λ (f : ℕ → ℕ). map (λ b. greatest m (λ i. amount b i - f i)) bids) (fun-ext h)
+
 -- and of floors
 pub aboveFloors-same : (m : ℕ) (f g p q : List ℕ) → ((i : ℕ) → amount f i ≡ amount g i) → ((i : ℕ) → amount p i ≡ amount q i) → aboveFloors m f p ≡ aboveFloors m g q
 unfolding aboveFloors
@@ -73,6 +77,9 @@ module _ (m : ℕ) (lm : m ≤ 32) (p : List ℕ) (long : length p ≡ m) where
 
   pub demands-places : (bids : List (List ℕ)) → demands m bids (places 32 p) ≡ demands m bids p
   demands-places bids = demands-same (places 32 p) p places-amount m bids
+
+  pub surpluses-places : (bids : List (List ℕ)) → surpluses m bids (places 32 p) ≡ surpluses m bids p
+  surpluses-places bids = surpluses-same (places 32 p) p places-amount m bids
 
   -- a move that leaves a price of 0 of an item that is not in the set: it moves the m items' places, and leaves zeros past them
   moved : (s : ℕ) (f : ℕ → Bool → ℕ) → f 0 false ≡ 0 → s < 2 ^ m

@@ -12,7 +12,7 @@ use Rattle.sets.specs.Count.{toNat}
 use Rattle.sets.specs.Bit.{has}
 use Rattle.sets.specs.Lists.{places}
 use Rattle.rule.specs.Sheet.{Sheet, amount}
-use Rattle.rule.specs.Demand.{Demand, demands}
+use Rattle.rule.specs.Demand.{Demand, demands, surpluses}
 use Rattle.rule.specs.Excess.{aboveFloors}
 use Rattle.rule.specs.Round.{Round, lowered, State, move, opening, after, path, close}
 use Rattle.rule.specs.Closing.{demandsAt, excessSupplyAt, roundOf, Closing}
@@ -86,13 +86,13 @@ module _ (s : Sheet) (g : Ready s) (low : List ℕ) (floored : low ≡ places 32
           by false = demand-bound items (demandsAt s q)
           by true = supply-bound items (aboveFloors items (s .floors) q) (demandsAt s q)
 
-      module _ (r : Reason) (found : ReasonIs (s .items) (aboveFloors (s .items) low p) (demands (s .items) (s .bids) p) falls r) where
+      module _ (r : Reason) (found : ReasonIs (s .items) (aboveFloors (s .items) low p) (demands (s .items) (s .bids) p) (surpluses (s .items) (s .bids) p) falls r) where
         -- at the path's own prices
-        found-there : ReasonIs items (aboveFloors items (s .floors) q) (demandsAt s q) falls r
+        found-there : ReasonIs items (aboveFloors items (s .floors) q) (demandsAt s q) (surpluses (s .items) (s .bids) p) falls r
         found-there =
-            subst (λ (ds : List Demand). ReasonIs items (aboveFloors items (s .floors) q) ds falls r)
+            subst (λ (ds : List Demand). ReasonIs items (aboveFloors items (s .floors) q) ds (surpluses (s .items) (s .bids) p) falls r)
             (ap (demands items (s .bids)) here ∙ demands-places items most q (long k) (s .bids))
-            (subst (λ (a : ℕ). ReasonIs items a (demands items (s .bids) p) falls r)
+            (subst (λ (a : ℕ). ReasonIs items a (demands items (s .bids) p) (surpluses (s .items) (s .bids) p) falls r)
             above-is found)
 
         pub line-is : reasonLine (k + 1) (record { kind = r .kind; items = r .items; bidders = r .bidders }) ≡ lineOf s k

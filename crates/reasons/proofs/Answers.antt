@@ -38,7 +38,7 @@ module _ (bytes : List ℕ) where
 
   -- accepted bytes are those that closing accepts with room for every closing sheet, so all that is promised of a close holds of their sheet
   pub accepted-promised : bidSheetRefusal bytes ≡ 0 → Promised (sheetIn bytes) (sealedIn bytes)
-  accepted-promised z = promised bytes 271 (sym (same-number bytes 271 (omega arith)) ∙ z)
+  accepted-promised z = promised bytes 528 (sym (same-number bytes 528 (omega arith)) ∙ z)
 
   -- ---- how long an answer is
 
@@ -62,9 +62,9 @@ module _ (bytes : List ℕ) where
 -- ---- an input that is longer than any bid sheet
 
 -- it is answered by the number that closing gives it
-numbered : (bytes : List ℕ) (why : ℕ) → sheetRefusal bytes 271 ≡ suc why → reasonsIn bytes ≡ numberLine (suc why)
+numbered : (bytes : List ℕ) (why : ℕ) → sheetRefusal bytes 528 ≡ suc why → reasonsIn bytes ≡ numberLine (suc why)
 numbered bytes why e =
-    let f : bidSheetRefusal bytes ≡ suc why = same-number bytes 271 (omega arith) ∙ e in
+    let f : bidSheetRefusal bytes ≡ suc why = same-number bytes 528 (omega arith) ∙ e in
     by-line bytes (λ z. omega (arith, f)) ∙ ap numberLine f
 
 -- what stands behind byte 8,390 changes no answer
@@ -76,4 +76,4 @@ same-answer bytes room k h = ap (fitting room) (go (decLe (length bytes) k))
     go (yes l) = ap reasonsIn (take-all k bytes l)
     go (no l) =
         let c = cut-off bytes k h (omega arith) in
-        numbered (take k bytes) (c .0) (c .1 271 .0) ∙ sym (numbered bytes (c .0) (c .1 271 .1))
+        numbered (take k bytes) (c .0) (c .1 528 .0) ∙ sym (numbered bytes (c .0) (c .1 528 .1))

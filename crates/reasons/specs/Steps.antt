@@ -3,6 +3,7 @@ use Prim.Native.Nat.{ℕ}
 use mathlib.Core.Bool.{Bool, true, false, cond}
 use mathlib.Core.List.{List}
 use mathlib.Core.Path.{_≡_}
+use Rattle.sets.specs.Lists.{places}
 use Rattle.rule.specs.Demand.{Demand}
 use Rattle.rule.specs.Excess.{excessDemand, excessSupply, somethingIn, nothingOutside}
 use Rattle.rule.specs.Round.{Round, raised, lowered, lower}
@@ -23,11 +24,12 @@ abbrev pub moveBy : (falls : Bool) → ℕ → Round
 moveBy true s = lowered s
 moveBy false s = raised s
 
--- the reason, as the code holds it, is that of this round
-pub record ReasonIs (m above : ℕ) (ds : List Demand) (falls : Bool) (r : Reason) : Type 0 where
+-- the reason, as the code holds it, is that of this round, and beside it are the highest surpluses xs in 64 places
+pub record ReasonIs (m above : ℕ) (ds : List Demand) (xs : List ℕ) (falls : Bool) (r : Reason) : Type 0 where
   pub kind : r .kind ≡ reasonOf m ds (moveBy falls (movingSet falls m above ds)) .kind
   pub items : r .items ≡ reasonOf m ds (moveBy falls (movingSet falls m above ds)) .items
   pub bidders : r .bidders ≡ reasonOf m ds (moveBy falls (movingSet falls m above ds)) .bidders
+  pub surpluses : r .surpluses ≡ places 64 xs
 
 -- the prices in 32 places after the round
 abbrev pub pricesAfter : (falls : Bool) (prices : List ℕ) → ℕ → List ℕ

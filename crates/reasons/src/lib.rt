@@ -4,7 +4,7 @@ ghost use mathlib.Core.Bool.{cond};
 ghost use Prim.Native.Nat.{_+_, _*_, _≤_};
 ghost use lib.ListN.{length, replicate};
 ghost use lib.Seq.{sets};
-ghost use Rattle.rule.specs.Demand.{demands};
+ghost use Rattle.rule.specs.Demand.{demands, surpluses};
 ghost use Rattle.rule.specs.Excess.{aboveFloors};
 ghost use Rattle.rule.specs.Round.{close};
 ghost use Rattle.rule.specs.Reasons.{biddersWith, roundCount};
@@ -68,27 +68,30 @@ fn kind(falls: bool) -> u32
     1
 }
 
-// A round's kind, the set that moves, and the bidders whose demands count.
+// A round's kind, the set that moves, and the bidders whose demands count; and each bidder's highest surplus, which was found with the demands.
 struct Reason {
     kind: u32,
     items: u32,
     bidders: u64,
+    surpluses: [u16; 64],
 }
 
 // The reason of the round at prices. A bid sheet has floors of 0.
 fn reason_at(prices: &[u16; 32], bids: &[u16], items: usize, bidders: usize, falls: bool) -> Reason
     requires { ⌜ (items ≤ 32) × (bidders ≤ 64) × (length (now bids) ≡ bidders * items) × (aboveFloors 32 (replicate 32 0) (now prices) ≡ aboveFloors items (replicate 32 0) (now prices)) ⌝ }
-    ensures { λ r. ⌜ ReasonIs items (aboveFloors items (replicate 32 0) (now (prices .entry))) (demands items (rowsOf items bidders (now (bids .entry))) (now (prices .entry))) falls r ⌝ }
+    ensures { λ r. ⌜ ReasonIs items (aboveFloors items (replicate 32 0) (now (prices .entry))) (demands items (rowsOf items bidders (now (bids .entry))) (now (prices .entry))) (surpluses items (rowsOf items bidders (now (bids .entry))) (now (prices .entry))) falls r ⌝ }
 {
     let d = demands::demands_at(prices, bids, items, bidders);
     let sets = d.sets;
     let nulls = d.nulls;
+    let surpluses = d.surpluses;
     let floors = [0u16; 32];
     let set = moving(&sets, nulls, round::above_floors(&floors, prices), falls);
     Reason {
         kind: kind(falls),
         items: set,
         bidders: who(&sets, nulls, bidders, set, falls),
+        surpluses: surpluses,
     }
 }
 

@@ -6,26 +6,27 @@ use mathlib.Core.Bool.{Bool, true, false, cond}
 use mathlib.Core.List.{List, [], _∷_}
 use native.Mathlib.Omega.{arith}
 use Rattle.sets.specs.Count.{allBelow, anyBelow, count}
-use Rattle.sets.specs.Bit.{bit, isSet, has, setOf, each, any, size}
+use Rattle.sets.specs.Bit.{bit, isSet, has, setOf, each, any, size, lowest}
 use Rattle.sets.specs.Largest.{largestBelow, largest}
 use Rattle.sets.specs.Lists.{tabulate}
 use Rattle.sets.specs.Sum.{sum}
-use Rattle.rule.specs.Sheet.{amount, row, each4095, Sheet, withinLimits}
-use Rattle.rule.specs.Demand.{surplusAtLeast, best, Demand, demand, demands, wants, nth}
+use Rattle.rule.specs.Sheet.{amount, row, each4095, Sheet, withinLimits, greatest}
+use Rattle.rule.specs.Demand.{surplusAtLeast, best, surplus, Demand, demand, demands, surpluses, wants, nth}
 use Rattle.rule.specs.Excess.{bidders, overdemanded, weaklyUnderdemanded, crowded, inExcess, inPositiveExcess, excessDemand, positiveExcessDemand, excessSupply, aboveFloors}
 use Rattle.rule.specs.Round.{raise, lower, Phase, rising, falling, raised, lowered, closed, State, roundFalling, round, move, roundAt, after, opening, path, mostRounds}
-use Rattle.rule.specs.Assignment.{option, holders, isAssignment, fits, Ahead, over-null, floorTotal}
-use Rattle.rule.specs.Equilibrium.{Below, Equilibrium, greatest}
+use Rattle.rule.specs.Assignment.{option, holders, isAssignment, fits, Ahead, over-null, floorTotal, someList, choose, assignment}
+use Rattle.rule.specs.Equilibrium.{Below, Equilibrium}
 use Rattle.rule.specs.Closing.{excessDemandAt, excessSupplyAt, FitsAt, roundOf, largestRise}
 use Rattle.rule.specs.FallingFirst.{roundRising, fallingRound, fallingRoundAt, fallingPath, fallingRoundOf}
-use Rattle.rule.specs.Reduced.{surplus, reducedLine}
+use Rattle.rule.specs.Gains.{gain, gainsAt}
+use Rattle.rule.specs.Reduced.{reducedLine}
 use Rattle.rule.specs.Reasons.{biddersWith, reasonOf, reasonAt, Justified}
 use Rattle.rule.specs.Refusal.{anyOver, anyUnder, badFloors}
 use Rattle.rule.specs.Former.{formerDemand, formerDemands, formerRoundAt, formerAfter, formerPath, FormerEquilibrium}
 
 -- the definitions that the cases compute with
 computing : Unit {0}
-unfolding allBelow anyBelow count bit isSet has setOf each any size largestBelow largest tabulate amount row each4095 withinLimits surplusAtLeast best demand demands wants nth bidders overdemanded weaklyUnderdemanded crowded inExcess inPositiveExcess excessDemand positiveExcessDemand excessSupply aboveFloors raise lower roundFalling round move roundAt after opening path mostRounds option holders isAssignment fits greatest biddersWith reasonOf reasonAt formerDemand formerDemands formerRoundAt formerAfter formerPath sum floorTotal anyOver anyUnder badFloors roundRising fallingRound fallingRoundAt fallingPath surplus reducedLine
+unfolding allBelow anyBelow count bit isSet has setOf each any size largestBelow largest tabulate amount row each4095 withinLimits surplusAtLeast best demand demands wants nth bidders overdemanded weaklyUnderdemanded crowded inExcess inPositiveExcess excessDemand positiveExcessDemand excessSupply aboveFloors raise lower roundFalling round move roundAt after opening path mostRounds option holders isAssignment fits greatest biddersWith reasonOf reasonAt formerDemand formerDemands formerRoundAt formerAfter formerPath sum floorTotal anyOver anyUnder badFloors roundRising fallingRound fallingRoundAt fallingPath surplus surpluses gain gainsAt someList choose assignment lowest reducedLine
 computing = tt
 
 -- a demand of these items alone, and one of null beside them
@@ -293,6 +294,26 @@ full-above = refl
 pub reduced-line : (reducedLine 2 (4 ∷ 4 ∷ []) (6 ∷ 7 ∷ []) ≡ 3 ∷ 4 ∷ []) × (reducedLine 2 (4 ∷ 4 ∷ []) (2 ∷ 6 ∷ []) ≡ 0 ∷ 4 ∷ []) × (reducedLine 2 (9 ∷ 9 ∷ []) (6 ∷ 7 ∷ []) ≡ 6 ∷ 7 ∷ [])
 unfolding computing
 reduced-line = (refl, refl, refl)
+
+-- ---- the highest surplus, and gains
+
+-- at (4, 4) bidder 1 has most from item 2, which leaves 2; at (9, 9) nothing is worth its price, and nobody has less than 0
+pub highest-of-all : (surpluses 2 (six .bids) (4 ∷ 4 ∷ []) ≡ 2 ∷ 3 ∷ 3 ∷ []) × (surpluses 2 (six .bids) (9 ∷ 9 ∷ []) ≡ 0 ∷ 0 ∷ 0 ∷ [])
+unfolding computing
+highest-of-all = (refl, refl)
+
+-- at (2, 6) with the names 0, 2 and 1: nobody has item 1 but bidder 3, and bidder 1, who has none, gains nothing
+pub gains-of-six : tabulate 3 (gain (six .bids) (2 ∷ 6 ∷ []) (0 ∷ 2 ∷ 1 ∷ [])) 0 ≡ 0 ∷ 1 ∷ 4 ∷ []
+unfolding computing
+gains-of-six = refl
+
+-- one item that starts at 5, with a floor of 2, and bids of 9 and 7: at its close, 7, bidder 1 has it and gains 2. From the start it would be 4, from the floor 7
+abbrev bought : Sheet
+bought = record { items = 1; start = 5 ∷ []; floors = 2 ∷ []; bids = (9 ∷ []) ∷ (7 ∷ []) ∷ [] }
+
+pub gains-at-close : gainsAt bought (7 ∷ []) ≡ 2 ∷ 0 ∷ []
+unfolding computing
+gains-at-close = refl
 
 -- ---- without #102
 

@@ -8,10 +8,10 @@ use native.Mathlib.Nat.{add-zero}
 use native.Mathlib.Decide.{decLe}
 use lib.ListN.{length}
 use Rattle.sets.specs.Bit.{has}
-use Rattle.rule.specs.Sheet.{amount, Sheet, withinLimits}
+use Rattle.rule.specs.Sheet.{amount, Sheet, withinLimits, greatest}
 use Rattle.rule.specs.Excess.{aboveFloors}
 use Rattle.rule.specs.Round.{falling, raised, lowered, closed, State, mostRounds}
-use Rattle.rule.specs.Equilibrium.{Below, greatest}
+use Rattle.rule.specs.Equilibrium.{Below}
 use Rattle.rule.specs.Closing.{excessDemandAt, excessSupplyAt, Closing}
 use Rattle.rule.specs.FallingFirst.{fallingRoundAt, fallingPath, fallingClose, fallingRoundOf, risingAfter, FallingClosing}
 use Rattle.rule.specs.Reduced.{reducedBids, reduced}

@@ -6,7 +6,7 @@ use native.Mathlib.Omega.{arith}
 use native.Mathlib.Nat.{lt-suc-self, eq-or-lt-of-le}
 use native.Mathlib.Numerals.{add-one}
 use Rattle.sets.proofs.Counting.{lt-or-le, below-suc}
-use Rattle.rule.specs.Equilibrium.{greatest}
+use Rattle.rule.specs.Sheet.{greatest}
 
 pub greatest-le : (m : ℕ) (f : ℕ → ℕ) (v : ℕ) → ((i : ℕ) → i < suc m → f i ≤ v) → greatest m f ≤ v
 unfolding greatest

@@ -11,6 +11,7 @@ pub mod Overdemand
 pub mod Surplus
 pub mod Wanted
 pub mod Zeros
+pub mod Highest
 pub mod AtPrices
 pub mod EmptySets
 pub mod NoFloors
@@ -28,6 +29,7 @@ pub mod Balance
 pub mod SameBalance
 pub mod Path
 pub mod Closing
+pub mod Gains
 pub mod Reduced
 pub mod Full
 pub mod FallingPath

@@ -14,39 +14,23 @@ use Rattle.sets.specs.Lists.{tabulate}
 use Rattle.sets.proofs.Counting.{is-false, not-both, count-none, and-right-false, together}
 use Rattle.sets.proofs.Members.{setOf-cong}
 use Rattle.sets.proofs.Lists.{tabulate-length, tabulate-at}
-use Rattle.rule.specs.Sheet.{amount, row, Sheet}
-use Rattle.rule.specs.Demand.{demand, demands, wants}
+use Rattle.rule.specs.Sheet.{amount, row, Sheet, greatest}
+use Rattle.rule.specs.Demand.{surplus, demand, demands, wants}
 use Rattle.rule.specs.Excess.{excessSupply}
-use Rattle.rule.specs.Equilibrium.{greatest}
-use Rattle.rule.specs.Reduced.{surplus, reducedLine, reducedBids, reduced}
-use Rattle.rule.proofs.Greatest.{greatest-ge, greatest-some}
+use Rattle.rule.specs.Reduced.{reducedLine, reducedBids, reduced}
 use Rattle.rule.proofs.Limits.{Amounts, rows-most, Limits, amount-null, amount-beyond}
 use Rattle.rule.proofs.Union.{Part, sub-use}
 use Rattle.rule.proofs.Overdemand.{within, Enough}
 use Rattle.rule.proofs.Surplus.{bidOf, wanted, wants-make}
 use Rattle.rule.proofs.Profile.{inside, excessOf, positive-profile}
 use Rattle.rule.proofs.Zeros.{best-use, best-make, demanded-best, best-demanded}
+use Rattle.rule.proofs.Highest.{surplus-most, surplus-some}
 
 -- ---- the highest surplus of a line at prices, and the line less it
 
 module _ (m : ℕ) (p r : List ℕ) where
   abbrev top : ℕ
   top = surplus m p r
-
-  -- no option has more
-  pub surplus-most : (i : ℕ) → i < suc m → amount r i ≤ top + amount p i
-  unfolding surplus
-  surplus-most zero l = omega (arith, amount-null r)
-  surplus-most (suc k) l = omega (arith, greatest-ge m (λ i. amount r i - amount p i) (suc k) (omega arith) l)
-
-  -- and some option, null perhaps, has that
-  pub surplus-some : (i : ℕ) × (i < suc m) × (amount r i ≡ top + amount p i)
-  surplus-some = go (ℕ-discrete top 0) (unfold surplus in greatest-some m (λ i. amount r i - amount p i))
-    where
-      go : Dec (top ≡ 0) → (top ≡ 0) ⊎ ((i : ℕ) × (0 < i) × (i < suc m) × (amount r i - amount p i ≡ top)) → (i : ℕ) × (i < suc m) × (amount r i ≡ top + amount p i)
-      go (yes z) w = (0, omega arith, omega (arith, z, amount-null r, amount-null p))
-      go (no nz) (inl z) = absurd (nz z)
-      go (no nz) (inr w) = (w .0, w .2, omega (arith, w .3))
 
   pub reduced-at : (i : ℕ) → i < suc m → amount (reducedLine m p r) i ≡ amount r i - top
   unfolding reducedLine amount
@@ -67,7 +51,7 @@ module _ (m : ℕ) (p r : List ℕ) where
         best-i = best-use m q r i (demanded-best m q r i l e)
 
         high : top + amount q i ≤ amount r i
-        high = let w = surplus-some in omega (arith, best-i (w .0) (w .1), w .2, down (w .0) (w .1))
+        high = let w = surplus-some m p r in omega (arith, best-i (w .0) (w .1), w .2, down (w .0) (w .1))
 
     from-reduced : wants (demand m q less) i ≡ true → wants (demand m q r) i ≡ true
     from-reduced e = best-demanded m q r i l (omega (arith, up, high, reduced-at i l)) (best-make m q r i (λ j lj. omega (arith, up, high, best-i j lj, reduced-at i l, reduced-at j lj)))

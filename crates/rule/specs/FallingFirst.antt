@@ -5,11 +5,11 @@ use mathlib.Core.Bool.{true}
 use mathlib.Core.List.{List}
 use mathlib.Core.Path.{_≡_}
 use Rattle.sets.specs.Bit.{has}
-use Rattle.rule.specs.Sheet.{amount, Sheet}
+use Rattle.rule.specs.Sheet.{amount, Sheet, greatest}
 use Rattle.rule.specs.Demand.{Demand}
 use Rattle.rule.specs.Excess.{excessDemand, excessSupply, aboveFloors}
 use Rattle.rule.specs.Round.{Phase, rising, falling, Round, raised, lowered, closed, State, move, mostRounds}
-use Rattle.rule.specs.Equilibrium.{Below, greatest}
+use Rattle.rule.specs.Equilibrium.{Below}
 use Rattle.rule.specs.Closing.{demandsAt, excessDemandAt, excessSupplyAt, Closing}
 
 -- from the turn on the rising set goes up until it is empty

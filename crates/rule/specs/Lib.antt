@@ -7,6 +7,7 @@ pub mod Assignment
 pub mod Completion
 pub mod Equilibrium
 pub mod Closing
+pub mod Gains
 pub mod FallingFirst
 pub mod Reduced
 pub mod Reasons

@@ -4,11 +4,7 @@ use Prim.Native.Nat.{ℕ, _-_}
 use mathlib.Core.List.{List, map}
 use Rattle.sets.specs.Lists.{tabulate}
 use Rattle.rule.specs.Sheet.{amount, Sheet}
-use Rattle.rule.specs.Equilibrium.{greatest}
-
--- the highest surplus at prices, null's included, which is 0
-unfoldable pub surplus : ℕ → (prices bids : List ℕ) → ℕ
-surplus m prices bids = greatest m λ i. amount bids i - amount prices i
+use Rattle.rule.specs.Demand.{surplus}
 
 -- a bidder's bids less that surplus, and 0 where it is more: the price up to which an item is no worse than what the prices leave to the bidder
 unfoldable pub reducedLine : ℕ → (prices bids : List ℕ) → List ℕ

@@ -2,8 +2,7 @@
 use Prim.Native.Nat.{ℕ, _-_, _≤_}
 use mathlib.Core.Path.{_≡_, refl, ap, _∙_}
 use native.Mathlib.Omega.{arith}
-use Rattle.rule.specs.Sheet.{amount}
-use Rattle.rule.specs.Equilibrium.{greatest}
+use Rattle.rule.specs.Sheet.{amount, greatest}
 use Rattle.rule.proofs.Greatest.{greatest-next}
 use borrow.Author.Needs.{needs}
 use Rattle.auction.proofs.furthest.Statement.{statement}

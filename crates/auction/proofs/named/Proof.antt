@@ -18,14 +18,14 @@ first-requires : tie.Need-first-requires
 first-requires c κs = search needs
 
 returns : tie.Need-returns
-returns c q long ep =
-    let a = c .before .before .before .before .before .before .before .before .before .before .before .before .args in
-    let f = c .before .before .before .before .before .before .before .before .before .before .before .before .pre .0 in
-    let at = c .before .before .before .before .before .before .before .demands-at in
+returns c q long ep fitting =
+    let a = c .before .before .before .before .before .before .before .before .before .before .before .before .before .args in
+    let f = c .before .before .before .before .before .before .before .before .before .before .before .before .before .pre .0 in
+    let at = c .before .before .before .before .before .before .before .before .demands-at in
     let d = demanded (a .items) (a .bidders) (a .path .prices) (a .bids .now) (record { max-items = f .max-items; max-bidders = f .max-bidders; exact = f .long }) (at .result) (at .ensures) in
-    named-is (a .items) (a .bidders) (a .floors .now) (a .bids .now) q (f .max-items) (c .before .before .before .before .before .before .before .before .before .before .before .before .pre .1) long
+    named-is (a .items) (a .bidders) (a .floors .now) (a .bids .now) q (f .max-items) (c .before .before .before .before .before .before .before .before .before .before .before .before .before .pre .1) long
     (a .path .prices) (c .before .before .before .before .before .before .in-places .result) (at .result .sets) (at .result .nulls) (c .before .above-floors .result) ep (c .before .before .before .before .before .before .in-places .ensures) (c .before .above-floors .ensures)
-    (d .reported) (d .same) (a .path .raised) (a .path .lowered) (c .first .result) (c .first .ensures)
+    (d .reported) (d .same) (at .result .surpluses) (d .highest) fitting (a .path .raised) (a .path .lowered) (c .first .result) (c .first .ensures)
 
 pub named-spec : {M : Type 1} → statement M
 named-spec =

@@ -73,6 +73,7 @@ returns-2 c =
     let at = c .before .loop in (
       null-test (length (a .line .now)) (a .prices .now) (a .line .now) (top .result) (top .ensures),
       add-end (demandedAt (length (a .line .now)) (a .prices .now) (a .line .now)) (at .i) (length (a .line .now)) (at .items) (at .inv .1) (at .inv .0) (c .loop-test .left),
+      top .ensures,
     )
 
 pub demand-of-spec : {M : Type 1} → statement M

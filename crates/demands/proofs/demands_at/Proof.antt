@@ -10,10 +10,10 @@ use Rattle.demands.proofs.demands_at.Statement.{statement}
 use Rattle.demands.proofs.demands_at.Tie as tie
 
 abbrev Inv-loop : tie.InvT-loop
-Inv-loop prices bids items bidders sets₀ nulls₀ b₀ sets nulls b = Complete items bidders (length bids) × Collected items bidders prices bids sets nulls b
+Inv-loop prices bids items bidders sets₀ nulls₀ surpluses₀ b₀ sets nulls surpluses b = Complete items bidders (length bids) × Collected items bidders prices bids sets nulls surpluses b
 
 abbrev μ-loop : tie.MeasureT-loop
-μ-loop prices bids items bidders sets₀ nulls₀ b₀ sets nulls b = bidders - b
+μ-loop prices bids items bidders sets₀ nulls₀ surpluses₀ b₀ sets nulls surpluses b = bidders - b
 
 complete-requires : tie.Need-complete-requires Inv-loop μ-loop
 complete-requires c κs = search needs
@@ -53,6 +53,12 @@ add-add-bidder c = search needs
 add-bidder-requires : tie.Need-add-bidder-requires Inv-loop μ-loop
 add-bidder-requires c κs = search needs
 
+mul-surpluses : tie.Need-mul-surpluses Inv-loop μ-loop
+mul-surpluses c = search needs
+
+array-write-surpluses : tie.Need-array-write-surpluses Inv-loop μ-loop
+array-write-surpluses c = omega (arith, c .before .before .before .before .loop .inv .0 .max-bidders, c .before .before .before .loop-test .taken)
+
 add-b : tie.Need-add-b Inv-loop μ-loop
 add-b c = search needs
 
@@ -66,14 +72,15 @@ loop-again c =
     let d = c .before .demand-of in (
       at .inv .0,
       collect-next (a .items) (a .bidders) (a .prices .now) (a .bids .now) (at .inv .0) (at .b) (c .before .before .before .loop-test .taken) (c .before .before .row .result .now) (c .before .before .row .ensures .0)
-          (at .sets) (at .nulls) (at .inv .1) (d .result .items) (d .ensures .1) (d .result .null) (d .ensures .0) (c .add-bidder .result) (c .add-bidder .ensures),
+          (at .sets) (at .nulls) (at .surpluses) (at .inv .1) (d .result .items) (d .ensures .1) (d .result .null) (d .ensures .0) (d .result .surplus) (d .ensures .2)
+          (c .add-bidder .result) (c .add-bidder .ensures),
     )
 
 returns-2 : tie.Need-returns-2 Inv-loop μ-loop
 returns-2 c =
     let a = c .before .before .before .before .before .args in
     let at = c .before .loop in
-    collect-end (a .items) (a .bidders) (a .prices .now) (a .bids .now) (at .inv .0) (at .sets) (at .nulls) (at .b) (at .inv .1) (c .loop-test .left)
+    collect-end (a .items) (a .bidders) (a .prices .now) (a .bids .now) (at .inv .0) (at .sets) (at .nulls) (at .surpluses) (at .b) (at .inv .1) (c .loop-test .left)
 
 pub demands-at-spec : {M : Type 1} → statement M
 demands-at-spec =
@@ -91,6 +98,8 @@ demands-at-spec =
     array-write-sets
     add-add-bidder
     add-bidder-requires
+    mul-surpluses
+    array-write-surpluses
     add-b
     loop-less
     loop-again

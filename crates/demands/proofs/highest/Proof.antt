@@ -3,9 +3,8 @@ use Prim.Native.Nat.{ℕ, _-_, _≤_}
 use mathlib.Core.Path.{_≡_, refl, ap, _∙_}
 use native.Mathlib.Omega.{arith}
 use lib.ListN.{length}
-use Rattle.rule.specs.Sheet.{amount}
-use Rattle.rule.specs.Equilibrium.{greatest}
-use Rattle.rule.specs.Reduced.{surplus}
+use Rattle.rule.specs.Sheet.{amount, greatest}
+use Rattle.rule.specs.Demand.{surplus}
 use Rattle.rule.proofs.Greatest.{greatest-next}
 use borrow.Author.Needs.{needs}
 use Rattle.demands.proofs.highest.Statement.{statement}

@@ -22,9 +22,9 @@ who-requires c κs = search needs
 
 returns : tie.Need-returns
 returns c =
-    let a = c .before .before .before .before .before .before .before .before .before .before .args in
-    let pre = c .before .before .before .before .before .before .before .before .before .before .pre in
-    let d = c .before .before .before .before .before .before .before .before .demands-at in
+    let a = c .before .before .before .before .before .before .before .before .before .before .before .args in
+    let pre = c .before .before .before .before .before .before .before .before .before .before .before .pre in
+    let d = c .before .before .before .before .before .before .before .before .before .demands-at in
     reason-is (a .items) (a .bidders) (replicate 32 0) (a .prices .now) (a .bids .now) (record { max-items = pre .0; max-bidders = pre .1; exact = pre .2 }) (pre .3) (a .falls) (d .result) (d .ensures)
     (c .before .before .before .before .above-floors .result) (c .before .before .before .moving .result) (c .before .before .kind .result) (c .who .result) (c .before .before .before .before .above-floors .ensures) (c .before .before .before .moving .ensures) (c .before .before .kind .ensures) (c .who .ensures)
 
