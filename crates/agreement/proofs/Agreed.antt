@@ -4,7 +4,7 @@
 use Prim.Native.Nat.{ℕ}
 use mathlib.Core.Path.{_≡_, refl}
 use mathlib.Core.Bool.{true, false}
-use mathlib.Core.List.{List, [], _∷_, map}
+use mathlib.Core.List.{List, [], _∷_, _++_, map}
 use lib.ListN.{replicate}
 use Rattle.sets.specs.Count.{allBelow, anyBelow, count}
 use Rattle.sets.specs.Bit.{bit, isSet, has, setOf, each, any, size, lowest}
@@ -16,9 +16,10 @@ use Rattle.rule.specs.Demand.{surplusAtLeast, best, demand, demands, wants, nth
 use Rattle.rule.specs.Excess.{bidders, crowded, inExcess, inPositiveExcess, excessDemand, positiveExcessDemand, excessSupply, aboveFloors}
 use Rattle.rule.specs.Round.{raise, lower, raised, lowered, closed, roundFalling, round, move, roundAt, after, opening, path, mostRounds, close}
 use Rattle.rule.specs.Assignment.{option, holders, isAssignment, fits, someList, choose, assignment}
+use Rattle.rule.specs.Gains.{gain, gainsAt}
 use Rattle.rule.specs.Refusal.{first, badItems, badBidders, badLength, anyOver, anyUnder, badFloors, badBidder}
 use Rattle.digits.specs.Digits.{digit, hex}
-use Rattle.lines.specs.Lines.{newline, joined, pricesLine, closingSheet, closingLength, writtenTo}
+use Rattle.lines.specs.Lines.{newline, joined, amountsLine, closingSheet, closingLength, writtenTo}
 use Rattle.round.specs.Reports.{reports}
 use Rattle.reports.specs.Report.{saying, isEmpty, beyond, unfit}
 use Rattle.live.specs.Auction.{place, hasReported, missing, reportsOf, itemsAbove, risingSet, fallingSet, countsFit, pricesFit, unusedPrices, floorsFit, fromFloors, unusedFloors, unusedPlaces, unusedBits, reportedFit, othersEmpty, roundsFit, closeFits, wellFormed}
@@ -28,12 +29,12 @@ use Rattle.live.specs.declared.Auction.{Auction}
 use Rattle.live.specs.declared.Phase.{Phase}
 use Rattle.live.specs.declared.Phase.the-variants.{Rising, Falling, Closed}
 use Rattle.agreement.specs.Calls.{Call, reporting, ending, clearing, reading, Answer, told, ended, shown, call, run}
-use Rattle.agreement.specs.Machine.{Machine, begin, at, phaseOf, phase, doesStand, said, saidAll, isMissing, sameBool, sameDemand, standsAs, demandsStand, tells, machineReport, machineClear, machineReadNumber, sealedSheet, machineRead, machineEndNumber, next, turned, machineEnd, machine, MachineRan, ran, left, behind, machineRun}
+use Rattle.agreement.specs.Machine.{Machine, begin, at, phaseOf, phase, doesStand, said, saidAll, isMissing, sameBool, sameDemand, standsAs, demandsStand, tells, machineReport, machineClear, machineReadNumber, threeLines, machineRead, machineEndNumber, next, turned, machineEnd, machine, MachineRan, ran, left, behind, machineRun}
 use Rattle.agreement.specs.Agreement.{openingOf, liveRun, standsFor, allRounds}
 
 -- the definitions that the instances compute with
 computing : Unit {0}
-unfolding amount row surplusAtLeast best demand demands wants nth bidders crowded inExcess inPositiveExcess excessDemand positiveExcessDemand excessSupply aboveFloors raise lower roundFalling round move roundAt after opening path mostRounds close option holders isAssignment fits someList choose assignment allBelow anyBelow count bit isSet has setOf each any size lowest largestBelow largest sum priceSum first badItems badBidders badLength anyOver anyUnder badFloors badBidder tabulate places digit hex newline joined pricesLine closingSheet closingLength writtenTo reports place hasReported missing isEmpty beyond unfit reportsOf itemsAbove risingSet fallingSet countsFit pricesFit unusedPrices floorsFit fromFloors unusedFloors unusedPlaces unusedBits reportedFit othersEmpty roundsFit closeFits wellFormed openAboveNumber opened unopened openedBy openAbove saying reportNumber withReport report clearNumber cleared clear atTop endNumber roundBy settled endAnswer endNext readNumber namesOf sheetOf readBytes call run begin at phaseOf phase doesStand said saidAll isMissing sameBool sameDemand standsAs demandsStand tells machineReport machineClear machineReadNumber sealedSheet machineRead machineEndNumber next turned machineEnd machine behind machineRun openingOf liveRun standsFor allRounds
+unfolding amount row surplusAtLeast best demand demands wants nth bidders crowded inExcess inPositiveExcess excessDemand positiveExcessDemand excessSupply aboveFloors raise lower roundFalling round move roundAt after opening path mostRounds close option holders isAssignment fits someList choose assignment gain gainsAt allBelow anyBelow count bit isSet has setOf each any size lowest largestBelow largest sum priceSum first badItems badBidders badLength anyOver anyUnder badFloors badBidder tabulate places digit hex newline joined amountsLine closingSheet closingLength writtenTo reports place hasReported missing isEmpty beyond unfit reportsOf itemsAbove risingSet fallingSet countsFit pricesFit unusedPrices floorsFit fromFloors unusedFloors unusedPlaces unusedBits reportedFit othersEmpty roundsFit closeFits wellFormed openAboveNumber opened unopened openedBy openAbove saying reportNumber withReport report clearNumber cleared clear atTop endNumber roundBy settled endAnswer endNext readNumber namesOf sheetOf readBytes call run begin at phaseOf phase doesStand said saidAll isMissing sameBool sameDemand standsAs demandsStand tells machineReport machineClear machineReadNumber threeLines machineRead machineEndNumber next turned machineEnd machine behind machineRun openingOf liveRun standsFor allRounds
 computing = tt
 
 -- ---- an instance: a sheet, calls with their answers, and the record after them
@@ -111,9 +112,12 @@ pub all-made : afterAll one oneList .moves ≡ allRounds one
 unfolding computing
 all-made = refl
 
--- and a read writes the closing sheet: 0 rounds raised, 1 lowered, price 0, item 1; the byte past it stays
+-- and a read writes the three lines: 0 rounds raised, 1 lowered, price 0, item 1; the byte past them stays
+abbrev pub linesOne : List ℕ
+linesOne = 48 ∷ 48 ∷ 48 ∷ 48 ∷ 48 ∷ 48 ∷ 48 ∷ 48 ∷ 48 ∷ 48 ∷ 48 ∷ 49 ∷ 10 ∷ 48 ∷ 48 ∷ 48 ∷ 48 ∷ 10 ∷ 48 ∷ 49 ∷ 10 ∷ []
+
 abbrev pub readOne : Answers
-readOne = (reading (replicate 22 7), shown 0 (48 ∷ 48 ∷ 48 ∷ 48 ∷ 48 ∷ 48 ∷ 48 ∷ 48 ∷ 48 ∷ 48 ∷ 48 ∷ 49 ∷ 10 ∷ 48 ∷ 48 ∷ 48 ∷ 48 ∷ 10 ∷ 48 ∷ 49 ∷ 10 ∷ 7 ∷ [])) ∷ []
+readOne = (reading (replicate 22 7), shown 0 (linesOne ++ 7 ∷ [])) ∷ []
 
 pub machine-reads : theirs (machineRun one (afterAll one oneList) (callsOf readOne)) ≡ answersOf readOne
 unfolding computing
@@ -122,6 +126,15 @@ machine-reads = refl
 pub live-reads : run closedOne (callsOf readOne) ≡ record { answers = answersOf readOne; last = closedOne }
 unfolding computing
 live-reads = refl
+
+-- they are the first of its sealed closing sheet, in which its bidder gains 1
+pub lines-one : threeLines one ≡ linesOne
+unfolding computing
+lines-one = refl
+
+pub gains-one : gainsAt one (close one .prices) ≡ 1 ∷ []
+unfolding computing
+gains-one = refl
 
 -- ---- K5, one item at 0 and one bidder who bids 0: the report that follows the sheet is null alone, and the read shows no item
 abbrev pub zero-bid : Sheet

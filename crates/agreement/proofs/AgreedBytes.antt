@@ -1,34 +1,40 @@
 -- An instance of the agreement with a bid sheet's bytes: those of the sheet `one` of `Agreed`, on which the machine closes. No number turns them down, so that neither
--- premise of `reads-sheet` is empty, and what closing them writes is what the read there was seen to write. Assumes nothing.
+-- premise of `reads-sheet` is empty. A read writes the lines that the read there was seen to write, and closing the bytes writes these and the line of gains.
+-- Assumes nothing.
 use Prim.Native.Nat.{ℕ}
-use mathlib.Core.Path.{_≡_, refl, sym, ap, _∙_}
+use mathlib.Core.Path.{_≡_, refl, ap, ap₂, _∙_}
 use mathlib.Core.Bool.{true}
-use mathlib.Core.List.{List, [], _∷_}
+use mathlib.Core.List.{List, [], _∷_, _++_}
 use native.Mathlib.Omega.{arith}
+use lib.Dec.{ltb}
 use lib.ListN.{length, replicate}
 use Rattle.sets.specs.Count.{anyBelow}
 use Rattle.sets.specs.Lists.{tabulate}
 use Rattle.rule.specs.Sheet.{Sheet}
-use Rattle.rule.specs.Refusal.{first, badItems, badBidders, anyOver}
+use Rattle.rule.specs.Round.{close}
+use Rattle.rule.specs.Gains.{gainsAt}
+use Rattle.rule.specs.Refusal.{on, first, badItems, badBidders, anyOver}
+use Rattle.digits.specs.Digits.{digit, hex}
 use Rattle.digits.specs.Reading.{digitValue, digitAt, numberAt}
-use Rattle.lines.specs.Lines.{closingLength}
+use Rattle.lines.specs.Lines.{newline, joined, amountsLine, closingLength, sealedLength, writtenTo}
 use Rattle.lines.specs.Reading.{numbersAt, endsAt, lineAt}
-use Rattle.live.specs.Reading.{readBytes}
+use Rattle.live.specs.Reading.{readNumber, readBytes}
 use Rattle.bids.specs.Lent.{lineOf, rowsOf, sheetAbove, sheetOf}
 use Rattle.sheet.specs.BidSheet.{itemsIn, biddersIn, bidsAt, readSheet}
-use Rattle.sheet.specs.Close.{itemsOf, biddersOf, bidSheetOf, sheetRefusal, closedTo}
+use Rattle.sheet.specs.Close.{itemsOf, biddersOf, bidSheetOf, sheetRefusal, byNumber, closedTo}
 use Rattle.sheet.specs.Accepted.{sheetIn}
 use Rattle.sheet.proofs.Accepted.{promised}
-use Rattle.agreement.specs.Calls.{Answer, told, ended, shown, call, Ran, run}
-use Rattle.agreement.specs.Machine.{begin, MachineRan, ran, left, machineRun}
+use Rattle.agreement.specs.Calls.{Answer, Ran}
+use Rattle.agreement.specs.Machine.{begin, threeLines, MachineRan, ran, left, machineRun}
 use Rattle.agreement.specs.Agreement.{liveRun}
-use Rattle.agreement.proofs.Agreed.{callsOf, theirs, stateOf, one, oneList, closedOne, closes, live-reads}
+use Rattle.agreement.specs.Sheets.{gainsLine, ReadsSheet}
+use Rattle.agreement.proofs.Agreed.{callsOf, theirs, stateOf, one, oneList, linesOne, closes, lines-one, gains-one}
 use Rattle.agreement.proofs.Agreement.{agreement}
-use Rattle.agreement.proofs.Sheets.{reads-sheet}
+use Rattle.agreement.proofs.Sheets.{closes-sheet, reads-sheet}
 
 -- the definitions that the bytes are read by
 computing : Unit {0}
-unfolding anyBelow tabulate first badItems badBidders anyOver digitValue digitAt numberAt closingLength numbersAt endsAt lineAt lineOf rowsOf sheetOf sheetAbove itemsIn biddersIn bidsAt readSheet itemsOf biddersOf bidSheetOf sheetRefusal sheetIn
+unfolding anyBelow tabulate first badItems badBidders anyOver digitValue digitAt numberAt digit hex newline joined amountsLine writtenTo closingLength sealedLength numbersAt endsAt lineAt lineOf rowsOf sheetOf sheetAbove itemsIn biddersIn bidsAt readSheet itemsOf biddersOf bidSheetOf sheetRefusal sheetIn
 computing = tt
 
 -- the lines 01010001 and 0001
@@ -39,9 +45,14 @@ pub says : sheetIn oneBytes ≡ one
 unfolding computing
 says = refl
 
-pub no-number : sheetRefusal oneBytes 22 ≡ 0
+-- four lines take 26 bytes, and one fewer is too few
+pub no-number : sheetRefusal oneBytes 26 ≡ 0
 unfolding computing
 no-number = refl
+
+pub one-fewer : sheetRefusal oneBytes 25 ≡ 3
+unfolding computing
+one-fewer = refl
 
 -- a machine that answers has not left the sheet
 on-sheet : (o : MachineRan) (x : Answer) (xs : List Answer) → theirs o ≡ x ∷ xs → o ≡ ran (theirs o) (stateOf o)
@@ -57,24 +68,36 @@ stays = on-sheet after _ _ (ap (λ (s : Sheet). theirs (machineRun s begin (call
 -- it has closed
 has-closed : stateOf after .hasClosed ≡ true
 has-closed =
-    agreement (sheetIn oneBytes) (promised oneBytes 22 no-number .within) (callsOf oneList) (theirs after) (stateOf after) stays .closed-only
+    agreement (sheetIn oneBytes) (promised oneBytes 26 no-number .within) (callsOf oneList) (theirs after) (stateOf after) stays .closed-only
     (ap (λ (s : Sheet). liveRun s (callsOf oneList) .last .phase) says ∙ ap (λ (r : Ran). r .last .phase) (closes .live))
 
--- what the read was seen to write
-bytesOf : List Answer → List ℕ
-bytesOf (shown n out ∷ xs) = out
-bytesOf (told n ∷ xs) = []
-bytesOf (ended x ∷ xs) = []
-bytesOf [] = []
+-- so a read writes the three lines; the byte past them stays
+abbrev whole : ReadsSheet oneBytes (callsOf oneList) (stateOf after)
+whole = reads-sheet oneBytes 26 no-number (callsOf oneList) (theirs after) (stateOf after) stays
 
-read : readBytes closedOne (replicate 22 7) ≡ 48 ∷ 48 ∷ 48 ∷ 48 ∷ 48 ∷ 48 ∷ 48 ∷ 48 ∷ 48 ∷ 48 ∷ 48 ∷ 49 ∷ 10 ∷ 48 ∷ 48 ∷ 48 ∷ 48 ∷ 10 ∷ 48 ∷ 49 ∷ 10 ∷ 7 ∷ []
-unfolding run call bytesOf
-read = ap (λ (r : Ran). bytesOf (r .answers)) live-reads
+read-number : readNumber (liveRun (sheetIn oneBytes) (callsOf oneList) .last) (replicate 22 7) ≡ 0
+unfolding computing
+read-number =
+    whole .read-number has-closed (replicate 22 7)
+    ∙ ap (λ (s : Sheet). first (on 3 (ltb 22 (closingLength (s .items) (length (s .bids)))) ∷ [])) says
 
--- closing the bytes writes the same: 0 rounds raised, 1 lowered, price 0, item 1; the byte past it stays
-pub writes : closedTo oneBytes (replicate 22 7) ≡ 48 ∷ 48 ∷ 48 ∷ 48 ∷ 48 ∷ 48 ∷ 48 ∷ 48 ∷ 48 ∷ 48 ∷ 48 ∷ 49 ∷ 10 ∷ 48 ∷ 48 ∷ 48 ∷ 48 ∷ 10 ∷ 48 ∷ 49 ∷ 10 ∷ 7 ∷ []
+pub reads : readBytes (liveRun (sheetIn oneBytes) (callsOf oneList) .last) (replicate 22 7) ≡ linesOne ++ 7 ∷ []
+unfolding computing
+reads =
+    whole .read-bytes has-closed (replicate 22 7)
+    ∙ ap₂ (λ (why : ℕ) (text : List ℕ). byNumber why (writtenTo (replicate 22 7) text) (replicate 22 7)) read-number (ap threeLines says ∙ lines-one)
+
+-- the line of gains: its bidder gains 1
+pub gains-line : gainsLine oneBytes ≡ 48 ∷ 48 ∷ 48 ∷ 49 ∷ 10 ∷ []
+unfolding computing gainsLine
+gains-line = ap (λ (s : Sheet). amountsLine (length (s .bids)) (gainsAt s (close s .prices))) says ∙ ap (amountsLine 1) gains-one
+
+-- closing the bytes writes the lines that the read there was seen to write, and behind them that line; the byte past it stays
+pub writes : closedTo oneBytes (replicate 27 7) ≡ linesOne ++ 48 ∷ 48 ∷ 48 ∷ 49 ∷ 10 ∷ 7 ∷ []
+unfolding computing
 writes =
-    sym (reads-sheet oneBytes 22 no-number (callsOf oneList) (theirs after) (stateOf after) stays .same-bytes has-closed (replicate 22 7))
-    ∙ ap (λ (s : Sheet). readBytes (liveRun s (callsOf oneList) .last) (replicate 22 7)) says
-    ∙ ap (λ (r : Ran). readBytes (r .last) (replicate 22 7)) (closes .live)
-    ∙ read
+    closes-sheet oneBytes 26 no-number .close-bytes (replicate 27 7)
+    ∙ ap₂ written (ap threeLines says ∙ lines-one) gains-line
+  where
+    written : List ℕ → List ℕ → List ℕ
+    written x y = writtenTo (replicate 27 7) (x ++ y)

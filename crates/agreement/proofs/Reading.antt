@@ -22,7 +22,7 @@ use Rattle.live.specs.Auction.{reportsOf, itemsAbove, wellFormed}
 use Rattle.live.specs.Calls.{isClosed}
 use Rattle.live.specs.Reading.{readNumber, namesOf, sheetOf, readBytes}
 use Rattle.agreement.specs.Calls.{reading, shown, call}
-use Rattle.agreement.specs.Machine.{Machine, at, answers, sealedSheet, machineReadNumber, machineRead, machine}
+use Rattle.agreement.specs.Machine.{Machine, at, answers, threeLines, machineReadNumber, machineRead, machine}
 use Rattle.agreement.specs.Agreement.{standsFor, ClosedAs}
 use Rattle.agreement.proofs.Along.{closed-close}
 use Rattle.lines.proofs.Same.{sheet-same}
@@ -64,8 +64,8 @@ module _ (s : Sheet) (lim : Limits s) (c : Closing s) (t : Machine) (g : Good s 
         ∙ ap (λ (q : State). assignmentAt s (q .prices)) at-is
 
     -- a closed record's sheet is the sealed closing sheet
-    sealed-is : sheetOf (standsFor s t) ≡ sealedSheet s
-    unfolding sheetOf sealedSheet standsFor
+    sealed-is : sheetOf (standsFor s t) ≡ threeLines s
+    unfolding sheetOf threeLines standsFor
     sealed-is =
         ap (closingSheet m n (at s t .ups) (at s t .downs) (places 32 (at s t .prices))) names-are
         ∙ sheet-places m n (at s t .ups) (at s t .downs) (at s t .prices) (assignmentAt s (close s .prices)) (lim .max-items)
@@ -77,9 +77,9 @@ module _ (s : Sheet) (lim : Limits s) (c : Closing s) (t : Machine) (g : Good s 
         read-number out ∙ passed 15 (not (t .hasClosed)) _ (ap not done)
         ∙ passed 3 (ltb (length out) (closingLength m n)) [] (le-ltb (length out) (closingLength m n) l) ∙ first-nil
 
-    reads-sealed : (out : List ℕ) → closingLength m n ≤ length out → readBytes (standsFor s t) out ≡ writtenTo out (sealedSheet s)
+    reads-lines : (out : List ℕ) → closingLength m n ≤ length out → readBytes (standsFor s t) out ≡ writtenTo out (threeLines s)
     unfolding readBytes
-    reads-sealed out l =
+    reads-lines out l =
         ap (λ (x : ℕ). elim x [ zero ↦ writtenTo out (sheetOf (standsFor s t)) | suc j ↦ out ]) (reads-on out l) ∙ ap (writtenTo out) sealed-is
 
     pub closed-as : ClosedAs s (standsFor s t)
@@ -91,7 +91,7 @@ module _ (s : Sheet) (lim : Limits s) (c : Closing s) (t : Machine) (g : Good s 
           at-prices = ap (λ (q : State). places 32 (q .prices)) at-is;
           names = names-are;
           reads = reads-on;
-          reads-sealed = reads-sealed;
+          reads-lines = reads-lines;
         }
 
   -- ---- the call
@@ -102,7 +102,7 @@ module _ (s : Sheet) (lim : Limits s) (c : Closing s) (t : Machine) (g : Good s 
 
   read-by : (out : List ℕ) (x : ℕ) → (x ≡ 0 → t .hasClosed ≡ true)
       → Follows s (record { answer = shown x (elim x [ zero ↦ writtenTo out (sheetOf (standsFor s t)) | suc j ↦ out ]); next = standsFor s t })
-      (elim x [ zero ↦ answers (shown 0 (writtenTo out (sealedSheet s))) t | suc j ↦ answers (shown (suc j) out) t ])
+      (elim x [ zero ↦ answers (shown 0 (writtenTo out (threeLines s))) t | suc j ↦ answers (shown (suc j) out) t ])
   unfolding Follows
   read-by out zero h = (ap (λ (y : List ℕ). shown 0 (writtenTo out y)) (sealed-is (h refl)), refl, g)
   read-by out (suc j) h = (refl, refl, g)

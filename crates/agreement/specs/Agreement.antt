@@ -19,7 +19,7 @@ use Rattle.live.specs.declared.Auction.{Auction}
 use Rattle.live.specs.declared.Reply.{Reply}
 use Rattle.live.specs.declared.Phase.the-variants.{Closed}
 use Rattle.agreement.specs.Calls.{Call, Answer, told, ended, shown, Ran, run}
-use Rattle.agreement.specs.Machine.{Machine, at, phase, doesStand, said, demandsStand, sealedSheet}
+use Rattle.agreement.specs.Machine.{Machine, at, phase, doesStand, said, demandsStand, threeLines}
 
 -- a live list: an opening with the sheet's counts, starting prices and floors, then the calls
 unfoldable pub openingOf : Sheet → Reply
@@ -68,14 +68,14 @@ unfoldable pub never : ℕ → List Answer → Bool
 never n [] = true
 never n (a ∷ rest) = not (eqb (numberOf a) n) && never n rest
 
--- a record that holds the sheet's close: its rounds, prices and names, and a read writes the sealed closing sheet
+-- a record that holds the sheet's close: its rounds, prices and names, and a read writes them, in three lines
 pub record ClosedAs (s : Sheet) (r : Auction) : Type 0 where
   pub all-raised : r .raised ≡ close s .ups
   pub all-lowered : r .lowered ≡ close s .downs
   pub at-prices : r .prices ≡ places 32 (close s .prices)
   pub names : namesOf r ≡ assignmentAt s (close s .prices)
   pub reads : (out : List ℕ) → closingLength (s .items) (length (s .bids)) ≤ length out → readNumber r out ≡ 0
-  pub reads-sealed : (out : List ℕ) → closingLength (s .items) (length (s .bids)) ≤ length out → readBytes r out ≡ writtenTo out (sealedSheet s)
+  pub reads-lines : (out : List ℕ) → closingLength (s .items) (length (s .bids)) ≤ length out → readBytes r out ≡ writtenTo out (threeLines s)
 
 -- what holds of a live list in which the machine never leaves the sheet, `theirs` being the machine's answers and t its state after the list
 pub record Agrees (s : Sheet) (calls : List Call) (theirs : List Answer) (t : Machine) : Type 0 where

@@ -117,9 +117,9 @@ machineReadNumber s t out =
     ∷ on 3 (ltb (length out) (closingLength (s .items) (length (s .bids))))
     ∷ [])
 
--- the sealed closing sheet: the sheet's rounds, prices and names at its close, in the three lines
-unfoldable pub sealedSheet : Sheet → List ℕ
-sealedSheet s =
+-- the three lines of a read: the sheet's rounds, prices and names at its close, with which the sealed closing sheet begins
+unfoldable pub threeLines : Sheet → List ℕ
+threeLines s =
     let c : State = close s in
     closingSheet (s .items) (length (s .bids)) (c .ups) (c .downs) (c .prices) (assignmentAt s (c .prices))
 
@@ -127,7 +127,7 @@ sealedSheet s =
 unfoldable pub machineRead : Sheet → Machine → List ℕ → Outcome
 machineRead s t out =
     elim (machineReadNumber s t out) [
-      | zero ↦ answers (shown 0 (writtenTo out (sealedSheet s))) t
+      | zero ↦ answers (shown 0 (writtenTo out (threeLines s))) t
       | suc j ↦ answers (shown (suc j) out) t
     ]
 

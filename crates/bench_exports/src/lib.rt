@@ -7,7 +7,7 @@ use live::Kind;
 use live::Phase;
 ghost use mathlib.Core.Path.{_≡_};
 ghost use lib.ListN.{length};
-ghost use Rattle.lines.specs.Lines.{writes, afterClosing};
+ghost use Rattle.lines.specs.Lines.{closingSheet, closingLength, writes, afterWriting};
 ghost use Rattle.reports.specs.Report.{saying};
 ghost use Rattle.live.specs.Calls.{report, clear, endingOf, endAnswer, endNext};
 ghost use Rattle.live.specs.Reading.{readNumber, readBytes};
@@ -209,8 +209,8 @@ pub extern "C" fn bench_write_closing<'a>(
     prices: &'a [u16; 32],
     options: &'a [u8; 64],
 ) -> bool
-    ensures { λ r. ⌜ (r ≡ writes items bidders (length (now (out .entry))))
-        × (now (out .exit) ≡ afterClosing items bidders raised lowered (now (prices .entry)) (now (options .entry)) (now (out .entry))) ⌝ }
+    ensures { λ r. ⌜ (r ≡ writes items bidders (closingLength items bidders) (length (now (out .entry))))
+        × (now (out .exit) ≡ afterWriting items bidders (closingSheet items bidders raised lowered (now (prices .entry)) (now (options .entry))) (now (out .entry))) ⌝ }
 {
     let m = items as usize;
     let n = bidders as usize;

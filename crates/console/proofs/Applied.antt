@@ -8,7 +8,7 @@ use Rattle.sets.specs.Lists.{tabulate, places}
 use Rattle.rule.specs.Refusal.{first, badItems, badBidders, badLength, anyOver, anyUnder, badFloors}
 use Rattle.digits.specs.Digits.{digit, hex}
 use Rattle.digits.specs.Reading.{digitValue, digitAt, numberAt}
-use Rattle.lines.specs.Lines.{newline, joined, numberText, numberLine, pricesLine}
+use Rattle.lines.specs.Lines.{newline, joined, numberText, numberLine, amountsLine}
 use Rattle.lines.specs.Reading.{numbersAt}
 use Rattle.live.specs.Calls.{openAboveNumber, zeros, opened, unopened, openedBy, openAbove, openNumber, openAuction}
 use Rattle.live.specs.declared.Auction.{Auction}
@@ -18,7 +18,7 @@ use Rattle.console.specs.declared.Order.the-variants.{Open, OpenAbove, U
 
 -- the definitions that the cases compute with
 computing : Unit {0}
-unfolding anyBelow tabulate places first badItems badBidders badLength anyOver anyUnder badFloors digit hex digitValue digitAt numberAt newline joined numberText numberLine pricesLine numbersAt openAboveNumber zeros opened unopened openedBy openAbove openNumber openAuction starts alone amountsAt opening reporting orderOf amountsOf startsOf floorsOf pricesText opens toldBy told
+unfolding anyBelow tabulate places first badItems badBidders badLength anyOver anyUnder badFloors digit hex digitValue digitAt numberAt newline joined numberText numberLine amountsLine numbersAt openAboveNumber zeros opened unopened openedBy openAbove openNumber openAuction starts alone amountsAt opening reporting orderOf amountsOf startsOf floorsOf pricesText opens toldBy told
 computing = tt
 
 -- a line of this letter: 2 items, 1 bidder and these amounts

@@ -9,7 +9,7 @@ use lib.ListN.{length, set, length-append}
 use lib.Seq.{sets, length-sets}
 use Rattle.rule.specs.Round.{raised, lowered, closed}
 use Rattle.digits.specs.Digits.{hex}
-use Rattle.lines.specs.Lines.{numberText, numberLine, pricesLine, hasRoom}
+use Rattle.lines.specs.Lines.{numberText, numberLine, amountsLine, hasRoom}
 use Rattle.lines.proofs.Stores.{sets-then}
 use Rattle.lines.proofs.Numbered.{text-long, number-long, two-put, refusal-put}
 use Rattle.digits.proofs.Digits.{hex-length}
@@ -34,14 +34,14 @@ reply-put o out after l e =
 -- ---- prices
 
 pub prices-long : (r : Auction) → length (pricesText r) ≡ 4 * r .items + 1
-unfolding pricesText pricesLine
+unfolding pricesText amountsLine
 prices-long r = line-length (r .items) 4 (r .prices)
 
 pub prices-put : (r : Auction) (out after : List ℕ) (at : ℕ) → r .items ≤ 32 → at + 129 ≤ length out
-    → after ≡ cond (hasRoom (r .items) at (length out)) (sets out at (pricesLine (r .items) (r .prices))) out → after ≡ sets out at (pricesText r)
+    → after ≡ cond (hasRoom (r .items) at (length out)) (sets out at (amountsLine (r .items) (r .prices))) out → after ≡ sets out at (pricesText r)
 unfolding pricesText
 prices-put r out after at l h e =
-    e ∙ ap (λ (b : Bool). cond b (sets out at (pricesLine (r .items) (r .prices))) out) (room-priced (r .items) at (length out) l (omega arith))
+    e ∙ ap (λ (b : Bool). cond b (sets out at (amountsLine (r .items) (r .prices))) out) (room-priced (r .items) at (length out) l (omega arith))
 
 -- ---- an opening
 

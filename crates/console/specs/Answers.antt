@@ -4,7 +4,7 @@ use mathlib.Core.List.{List, [], _++_}
 use lib.ListN.{replicate}
 use Rattle.rule.specs.Round.{Round, raised, lowered, closed}
 use Rattle.digits.specs.Digits.{hex}
-use Rattle.lines.specs.Lines.{numberText, numberLine, pricesLine}
+use Rattle.lines.specs.Lines.{numberText, numberLine, amountsLine}
 use Rattle.reports.specs.Report.{saying}
 use Rattle.live.specs.Calls.{openAuction, openAbove, report, clear, Ending, gives, refused, endAnswer, endNext}
 use Rattle.live.specs.Reading.{readNumber, sheetOf}
@@ -16,7 +16,7 @@ use Rattle.console.specs.declared.Order.the-variants.{Open, OpenAbove, R
 
 -- the prices of the record's items, 4 digits each, to the line's end
 unfoldable pub pricesText : Auction → List ℕ
-pricesText r = pricesLine (r .items) (r .prices)
+pricesText r = amountsLine (r .items) (r .prices)
 
 -- what is answered, newline included, and the record that is kept
 pub record Told : Type 0 where

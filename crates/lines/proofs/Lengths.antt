@@ -6,7 +6,7 @@ use native.Mathlib.Omega.{arith}
 use lib.ListN.{length, getD, length-append}
 use Rattle.digits.specs.Digits.{hex}
 use Rattle.digits.proofs.Digits.{hex-length}
-use Rattle.lines.specs.Lines.{newline, joined, pricesLine, closingSheet, closingLength}
+use Rattle.lines.specs.Lines.{newline, joined, amountsLine, closingSheet, sealedSheet, closingLength, sealedLength}
 
 pub joined-length : (n c : ℕ) (f : ℕ → List ℕ) → ((k : ℕ) → length (f k) ≡ c) → length (joined n f) ≡ c * n
 unfolding joined
@@ -37,13 +37,17 @@ numbers-length n c xs = joined-length n c (λ k. hex c (getD xs k 0)) (λ k. hex
 pub line-length : (n c : ℕ) (xs : List ℕ) → length (joined n (λ k. hex c (getD xs k 0)) ++ newline) ≡ c * n + 1
 line-length n c xs = omega (arith, length-append (joined n (λ k. hex c (getD xs k 0))) newline, numbers-length n c xs, newline-length)
 
+pub amounts-length : (k : ℕ) (xs : List ℕ) → length (amountsLine k xs) ≡ 4 * k + 1
+unfolding amountsLine
+amounts-length k xs = line-length k 4 xs
+
 -- the closing sheet by its lines
 pub by-lines : (m n ups downs : ℕ) (prices options : List ℕ)
     → closingSheet m n ups downs prices options
     ≡ hex 6 ups ++ hex 6 downs ++ newline
     ++ (joined m (λ k. hex 4 (getD prices k 0)) ++ newline)
     ++ (joined n (λ b. hex 2 (getD options b 0)) ++ newline)
-unfolding closingSheet pricesLine
+unfolding closingSheet amountsLine
 by-lines m n ups downs prices options = simp append-assoc
 
 pub closing-length : (m n ups downs : ℕ) (prices options : List ℕ) → length (closingSheet m n ups downs prices options) ≡ closingLength m n
@@ -60,4 +64,14 @@ closing-length m n ups downs prices options =
       rounds-length ups downs,
       line-length m 4 prices,
       line-length n 2 options,
+    )
+
+pub sealed-length : (m n ups downs : ℕ) (prices options gains : List ℕ) → length (sealedSheet m n ups downs prices options gains) ≡ sealedLength m n
+unfolding sealedSheet sealedLength closingLength
+sealed-length m n ups downs prices options gains =
+    omega (
+      arith,
+      length-append (closingSheet m n ups downs prices options) (amountsLine n gains),
+      closing-length m n ups downs prices options,
+      amounts-length n gains,
     )

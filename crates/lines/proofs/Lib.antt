@@ -1,3 +1,4 @@
+pub mod Applied
 pub mod Stores
 pub mod Numbered
 pub mod Lengths

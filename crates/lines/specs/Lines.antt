@@ -1,4 +1,4 @@
--- Lines of numbers, and the closing sheet's bytes: document 01, "Sheets". Assumes nothing: these are definitions.
+-- Lines of numbers, and the closing sheet's bytes: document 01, "Sheets"; document 02, #106, for the fourth line. Assumes nothing: these are definitions.
 use Prim.Native.Nat.{ℕ, zero, suc, _+_, _*_, _/_, _%_}
 use mathlib.Core.Bool.{Bool, _&&_, cond}
 use mathlib.Core.List.{List, [], _∷_, _++_}
@@ -23,37 +23,49 @@ numberText x = (48 + x / 10) ∷ (48 + x % 10) ∷ []
 unfoldable pub numberLine : ℕ → List ℕ
 numberLine x = numberText x ++ newline
 
--- a line of prices of m items, 4 digits each
-unfoldable pub pricesLine : ℕ → List ℕ → List ℕ
-pricesLine m prices = joined m (λ k. hex 4 (getD prices k 0)) ++ newline
+-- a line of k amounts, 4 digits each: prices, or gains
+unfoldable pub amountsLine : ℕ → List ℕ → List ℕ
+amountsLine k xs = joined k (λ j. hex 4 (getD xs j 0)) ++ newline
 
 -- three lines: rounds raised and rounds lowered, 6 digits each; each price, 4 digits; each bidder's option, 2 digits, 00 for none
 unfoldable pub closingSheet : (m n ups downs : ℕ) (prices options : List ℕ) → List ℕ
 closingSheet m n ups downs prices options =
     hex 6 ups ++ hex 6 downs ++ newline
-    ++ pricesLine m prices
+    ++ amountsLine m prices
     ++ joined n (λ b. hex 2 (getD options b 0)) ++ newline
 
--- how many bytes that is
+-- of a sealed auction four: behind these each bidder's gain, 4 digits
+unfoldable pub sealedSheet : (m n ups downs : ℕ) (prices options gains : List ℕ) → List ℕ
+sealedSheet m n ups downs prices options gains = closingSheet m n ups downs prices options ++ amountsLine n gains
+
+-- how many bytes three lines are, and four
 unfoldable pub closingLength : ℕ → ℕ → ℕ
 closingLength m n = 15 + 4 * m + 2 * n
 
--- and how many of them are written where there is room: none for more than 32 items or 64 bidders
-unfoldable pub closingBytes : ℕ → ℕ → ℕ
-closingBytes m n = cond (leb m 32 && leb n 64) (closingLength m n) 0
+unfoldable pub sealedLength : ℕ → ℕ → ℕ
+sealedLength m n = 16 + 4 * m + 6 * n
+
+-- ---- written to lent bytes
+
+-- sheets are written of at most 32 items and 64 bidders
+unfoldable pub counted : ℕ → ℕ → Bool
+counted m n = leb m 32 && leb n 64
+
+-- so many bytes are written where there is room: none for other counts
+unfoldable pub bytesOf : (m n long : ℕ) → ℕ
+bytesOf m n long = cond (counted m n) long 0
 
 -- lent bytes after the sheet is written to their front: bytes past the sheet stay as they came
 unfoldable pub writtenTo : List ℕ → List ℕ → List ℕ
 writtenTo out sheet = sheet ++ drop (length sheet) out
 
--- a closing sheet is written: of at most 32 items and 64 bidders, into bytes that are not too few for it
-unfoldable pub writes : (m n room : ℕ) → Bool
-writes m n room = leb m 32 && leb n 64 && leb (closingLength m n) room
+-- a sheet of so many bytes is written: of such counts, into bytes that are not too few for it
+unfoldable pub writes : (m n long room : ℕ) → Bool
+writes m n long room = counted m n && leb long room
 
 -- the lent bytes afterwards: as before where the sheet is not written
-unfoldable pub afterClosing : (m n ups downs : ℕ) (prices options out : List ℕ) → List ℕ
-afterClosing m n ups downs prices options out =
-    cond (writes m n (length out)) (writtenTo out (closingSheet m n ups downs prices options)) out
+unfoldable pub afterWriting : (m n : ℕ) (sheet out : List ℕ) → List ℕ
+afterWriting m n sheet out = cond (writes m n (length sheet) (length out)) (writtenTo out sheet) out
 
 -- there is room for a line of prices from a place on, and the items are at most 32
 unfoldable pub hasRoom : (m at room : ℕ) → Bool

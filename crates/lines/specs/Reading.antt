@@ -1,4 +1,4 @@
--- Lines read from bytes: document 01, "Sheets". Assumes nothing: these are definitions.
+-- Lines read from bytes: document 01, "Sheets"; document 02, #106, for the fourth line. Assumes nothing: these are definitions.
 use Prim.Native.Nat.{ℕ, zero, suc, _+_, _*_}
 use mathlib.Core.Bool.{Bool, cond}
 use mathlib.Core.List.{List, [], _∷_}
@@ -38,3 +38,14 @@ readClosing m n bytes = do
   prices ← lineAt m 4 bytes 13
   options ← lineAt n 2 bytes (14 + 4 * m)
   some (record { rounds = rounds; prices = prices; options = options })
+
+-- what the four lines of a sealed auction's closing sheet say: those three, and the gains
+pub record SaidSealed : Type 0 where
+  pub said : Said
+  pub gains : List ℕ
+
+unfoldable pub readSealed : (m n : ℕ) → List ℕ → Option SaidSealed
+readSealed m n bytes = do
+  said ← readClosing m n bytes
+  gains ← lineAt n 4 bytes (15 + 4 * m + 2 * n)
+  some (record { said = said; gains = gains })

@@ -7,7 +7,7 @@ ghost use lib.Dec.{ltb};
 ghost use lib.ListN.{length, getD};
 ghost use lib.Seq.{sets};
 ghost use Rattle.digits.specs.Digits.{hex};
-ghost use Rattle.lines.specs.Lines.{newline, joined, numberText, numberLine, pricesLine, hasRoom, closingBytes, writes, afterClosing};
+ghost use Rattle.lines.specs.Lines.{newline, joined, numberText, numberLine, amountsLine, closingSheet, sealedSheet, closingLength, sealedLength, counted, bytesOf, writes, afterWriting, hasRoom};
 
 // The first line: rounds raised and rounds lowered.
 fn put_rounds(out: &mut [u8], raised: u32, lowered: u32)
@@ -19,11 +19,11 @@ fn put_rounds(out: &mut [u8], raised: u32, lowered: u32)
     out[12] = b'\n';
 }
 
-// A price and an option as a number to write: of a parameter it is known that it fits, of an element of a lent array it is not.
-fn wide_price(price: u16) -> u32
-    ensures { λ r. ⌜ r ≡ price ⌝ }
+// An amount and an option as a number to write: of a parameter it is known that it fits, of an element of a lent array it is not.
+fn wide_amount(amount: u16) -> u32
+    ensures { λ r. ⌜ r ≡ amount ⌝ }
 {
-    price as u32
+    amount as u32
 }
 
 fn wide_option(option: u8) -> u32
@@ -32,17 +32,17 @@ fn wide_option(option: u8) -> u32
     option as u32
 }
 
-// The second line, from `at` on: each price.
-fn put_prices(out: &mut [u8], at: usize, items: usize, prices: &[u16; 32])
-    requires { ⌜ (items ≤ 32) × (at + 4 * items + 1 ≤ length (now out)) ⌝ }
-    ensures { λ _. ⌜ now (out .exit) ≡ sets (now (out .entry)) at (joined items (λ k. hex 4 (getD (now (prices .entry)) k 0)) ++ newline) ⌝ }
+// A line of so many amounts, 4 digits each, from `at` on: prices, or gains.
+fn put_amounts(out: &mut [u8], at: usize, count: usize, amounts: &[u16])
+    requires { ⌜ (count ≤ length (now amounts)) × (at + 4 * count + 1 ≤ length (now out)) ⌝ }
+    ensures { λ _. ⌜ now (out .exit) ≡ sets (now (out .entry)) at (amountsLine count (now (amounts .entry))) ⌝ }
 {
     let mut i: usize = 0;
-    while i < items {
-        digits::write_number(out, at + 4 * i, 4, wide_price(prices[i]));
+    while i < count {
+        digits::write_number(out, at + 4 * i, 4, wide_amount(amounts[i]));
         i += 1;
     }
-    out[at + 4 * items] = b'\n';
+    out[at + 4 * count] = b'\n';
 }
 
 // The third line, from `at` on: each bidder's option.
@@ -80,20 +80,47 @@ pub fn write_refusal(out: &mut [u8], number: u8)
     out[2] = b'\n';
 }
 
-// How many bytes a closing sheet is, and 0 for counts beyond 32 and 64, of which none is written.
-pub fn closing_length(items: usize, bidders: usize) -> usize
-    ensures { λ r. ⌜ r ≡ closingBytes items bidders ⌝ }
+// Whether sheets of such counts are written: at most 32 items and 64 bidders.
+fn counted(items: usize, bidders: usize) -> bool
+    ensures { λ r. ⌜ r ≡ counted items bidders ⌝ }
 {
     if 32 < items {
-        return 0;
+        return false;
     }
-    if 64 < bidders {
+    bidders <= 64
+}
+
+// How many bytes a closing sheet of three lines is, and 0 for other counts, of which none is written.
+pub fn closing_length(items: usize, bidders: usize) -> usize
+    ensures { λ r. ⌜ r ≡ bytesOf items bidders (closingLength items bidders) ⌝ }
+{
+    if !counted(items, bidders) {
         return 0;
     }
     15 + 4 * items + 2 * bidders
 }
 
-// Writes the closing sheet's three lines to the front of `out` and answers true. Where there is no room for them, or the counts are beyond
+// The same of four lines, as a sealed auction has them.
+pub fn sealed_length(items: usize, bidders: usize) -> usize
+    ensures { λ r. ⌜ r ≡ bytesOf items bidders (sealedLength items bidders) ⌝ }
+{
+    if !counted(items, bidders) {
+        return 0;
+    }
+    16 + 4 * items + 6 * bidders
+}
+
+// Whether a sheet of so many bytes is written where there is so much room.
+fn writes(items: usize, bidders: usize, long: usize, room: usize) -> bool
+    ensures { λ r. ⌜ r ≡ writes items bidders long room ⌝ }
+{
+    if !counted(items, bidders) {
+        return false;
+    }
+    long <= room
+}
+
+// Writes a closing sheet's first three lines to the front of `out` and answers true. Where there is no room for them, or the counts are beyond
 // 32 and 64, it answers false and leaves `out` as it came. Prices and options have one lifetime, so that they may be fields of one struct.
 pub fn write_closing<'a>(
     out: &mut [u8],
@@ -104,21 +131,37 @@ pub fn write_closing<'a>(
     prices: &'a [u16; 32],
     options: &'a [u8; 64],
 ) -> bool
-    ensures { λ r. ⌜ (r ≡ writes items bidders (length (now (out .entry))))
-        × (now (out .exit) ≡ afterClosing items bidders raised lowered (now (prices .entry)) (now (options .entry)) (now (out .entry))) ⌝ }
+    ensures { λ r. ⌜ (r ≡ writes items bidders (closingLength items bidders) (length (now (out .entry))))
+        × (now (out .exit) ≡ afterWriting items bidders (closingSheet items bidders raised lowered (now (prices .entry)) (now (options .entry))) (now (out .entry))) ⌝ }
 {
-    if 32 < items {
-        return false;
-    }
-    if 64 < bidders {
-        return false;
-    }
-    if out.len() < closing_length(items, bidders) {
+    if !writes(items, bidders, closing_length(items, bidders), out.len()) {
         return false;
     }
     put_rounds(out, raised, lowered);
-    put_prices(out, 13, items, prices);
+    put_amounts(out, 13, items, prices);
     put_options(out, 14 + 4 * items, bidders, options);
+    true
+}
+
+// Writes a sealed auction's closing sheet, those three lines and the line of gains, likewise.
+pub fn write_sealed<'a>(
+    out: &mut [u8],
+    items: usize,
+    bidders: usize,
+    raised: u32,
+    lowered: u32,
+    prices: &'a [u16; 32],
+    options: &'a [u8; 64],
+    gains: &'a [u16; 64],
+) -> bool
+    ensures { λ r. ⌜ (r ≡ writes items bidders (sealedLength items bidders) (length (now (out .entry))))
+        × (now (out .exit) ≡ afterWriting items bidders (sealedSheet items bidders raised lowered (now (prices .entry)) (now (options .entry)) (now (gains .entry))) (now (out .entry))) ⌝ }
+{
+    if !writes(items, bidders, sealed_length(items, bidders), out.len()) {
+        return false;
+    }
+    write_closing(out, items, bidders, raised, lowered, prices, options);
+    put_amounts(out, 15 + 4 * items + 2 * bidders, bidders, gains);
     true
 }
 
@@ -126,7 +169,7 @@ pub fn write_closing<'a>(
 // and leaves `out` as it came.
 pub fn write_prices(out: &mut [u8], at: usize, items: usize, prices: &[u16; 32]) -> bool
     ensures { λ r. ⌜ (r ≡ hasRoom items at (length (now (out .entry))))
-        × (now (out .exit) ≡ cond (hasRoom items at (length (now (out .entry)))) (sets (now (out .entry)) at (pricesLine items (now (prices .entry)))) (now (out .entry))) ⌝ }
+        × (now (out .exit) ≡ cond (hasRoom items at (length (now (out .entry)))) (sets (now (out .entry)) at (amountsLine items (now (prices .entry)))) (now (out .entry))) ⌝ }
 {
     if 32 < items {
         return false;
@@ -138,6 +181,6 @@ pub fn write_prices(out: &mut [u8], at: usize, items: usize, prices: &[u16; 32])
     if out.len() - long < at {
         return false;
     }
-    put_prices(out, at, items, prices);
+    put_amounts(out, at, items, prices);
     true
 }

@@ -1,4 +1,4 @@
--- Number 11 applied, clause by clause, and then openings with floors, by computation from the definitions alone. Each case of 11 is two records that differ in one
+-- Number 11 applied, clause by clause, then openings with floors and reading a close, by computation from the definitions alone. Each case of 11 is two records that differ in one
 -- number: the first, at the limit of the clause, is well formed, and the second is not. So a clause that is dropped or made weaker makes a case false, and so does
 -- one that is made stronger. Three clauses never turn a record down alone, and two of them have cases by themselves: a floor above 4,095 and an unused floor that is
 -- not zero are always also above their price, or the price breaks its own clause. The third has none: a bit of an item set past the items is always also in a
@@ -10,25 +10,28 @@ use mathlib.Core.Bool.{Bool, true, false}
 use mathlib.Core.List.{List, [], _∷_}
 use lib.ListN.{replicate, set}
 use Rattle.sets.specs.Count.{allBelow, anyBelow, count}
-use Rattle.sets.specs.Bit.{bit, isSet, has, setOf, each, any, size}
+use Rattle.sets.specs.Bit.{bit, isSet, has, setOf, each, any, size, lowest}
 use Rattle.sets.specs.Largest.{largestBelow, largest}
 use Rattle.sets.specs.Lists.{tabulate, places}
 use Rattle.sets.specs.Sum.{sum}
 use Rattle.rule.specs.Sheet.{amount, priceSum}
 use Rattle.rule.specs.Demand.{wants, nth}
 use Rattle.rule.specs.Excess.{bidders, crowded, inExcess, inPositiveExcess, excessDemand, positiveExcessDemand, excessSupply, aboveFloors}
+use Rattle.rule.specs.Assignment.{option, holders, isAssignment, fits, someList, choose, assignment}
 use Rattle.rule.specs.Refusal.{first, badItems, badBidders, badLength, anyOver, anyUnder, badFloors}
+use Rattle.lines.specs.Lines.{joined, amountsLine, closingSheet, closingLength, writtenTo}
 use Rattle.round.specs.Reports.{reports}
 use Rattle.reports.specs.Report.{isEmpty, beyond, unfit}
 use Rattle.live.specs.Auction.{place, hasReported, missing, reportsOf, itemsAbove, risingSet, fallingSet, countsFit, pricesFit, unusedPrices, floorsFit, fromFloors, unusedFloors, unusedPlaces, unusedBits, reportedFit, othersEmpty, roundsFit, closeFits, wellFormed}
 use Rattle.live.specs.Calls.{openAboveNumber, zeros, opened, unopened, openedBy, openAbove}
+use Rattle.live.specs.Reading.{readNumber, namesOf, sheetOf, readBytes}
 use Rattle.live.specs.declared.Auction.{Auction}
 use Rattle.live.specs.declared.Phase.{Phase}
 use Rattle.live.specs.declared.Phase.the-variants.{Rising, Falling, Closed}
 
 -- the definitions that the cases compute with
 computing : Unit {0}
-unfolding amount wants nth bidders crowded inExcess inPositiveExcess excessDemand positiveExcessDemand excessSupply aboveFloors allBelow anyBelow count bit isSet has setOf each any size largestBelow largest sum priceSum first badItems badBidders badLength anyOver anyUnder badFloors tabulate places reports place hasReported missing isEmpty beyond unfit reportsOf itemsAbove risingSet fallingSet countsFit pricesFit unusedPrices floorsFit fromFloors unusedFloors unusedPlaces unusedBits reportedFit othersEmpty roundsFit closeFits wellFormed openAboveNumber zeros opened unopened openedBy openAbove
+unfolding amount wants nth bidders crowded inExcess inPositiveExcess excessDemand positiveExcessDemand excessSupply aboveFloors allBelow anyBelow count bit isSet has setOf each any size largestBelow largest sum priceSum first badItems badBidders badLength anyOver anyUnder badFloors tabulate places reports place hasReported missing isEmpty beyond unfit reportsOf itemsAbove risingSet fallingSet countsFit pricesFit unusedPrices floorsFit fromFloors unusedFloors unusedPlaces unusedBits reportedFit othersEmpty roundsFit closeFits wellFormed openAboveNumber zeros opened unopened openedBy openAbove lowest option holders isAssignment fits someList choose assignment joined amountsLine closingSheet closingLength writtenTo readNumber namesOf sheetOf readBytes
 computing = tt
 
 -- number 11 lets the first record pass, and turns the second down
@@ -317,3 +320,23 @@ opens-above = refl
 pub opens-not : openAbove 2 1 (5 ∷ 3 ∷ []) (3 ∷ 4 ∷ []) ≡ record { number = 18; next = holds 0 0 [] [] [] 0 0 Rising 0 0 }
 unfolding computing
 opens-not = refl
+
+-- ---- reading a close: example 6, whose bidders report items 1 and 2 and null, items 1 and 2, and item 1
+
+abbrev pub closedSix : Auction
+closedSix = holds 2 3 (2 ∷ 6 ∷ []) [] (3 ∷ 3 ∷ 1 ∷ []) 1 7 Closed 2 2
+
+-- three lines are 29 bytes: into so many it is read, and into one fewer it is not. A sealed closing sheet, which has the gains too, would be 42
+pub read-exactly : (readNumber closedSix (replicate 29 7) ≡ 0) × (readNumber closedSix (replicate 28 7) ≡ 3)
+unfolding computing
+read-exactly = (refl, refl)
+
+-- rounds, prices and names are read, and there is no fourth line: bytes past the third stay as they came
+pub read-lines : readBytes closedSix (replicate 42 7) ≡ writtenTo (replicate 42 7) (closingSheet 2 3 2 2 (2 ∷ 6 ∷ []) (0 ∷ 2 ∷ 1 ∷ []))
+unfolding computing
+read-lines = refl
+
+-- and where it is turned down, all do
+pub read-not : readBytes closedSix (replicate 28 7) ≡ replicate 28 7
+unfolding computing
+read-not = refl

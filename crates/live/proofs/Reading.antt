@@ -16,8 +16,10 @@ use Rattle.rule.proofs.Refusal.{passed, given}
 use Rattle.assignment.specs.Assigned.{assigned}
 use Rattle.assignment.proofs.Unfit.{assigned-is}
 use Rattle.assignment.proofs.Narrowing.{assignment-narrow}
-use Rattle.lines.specs.Lines.{closingSheet, closingLength, writtenTo, writes, afterClosing}
+use Rattle.lines.specs.Lines.{closingSheet, closingLength, writtenTo, writes, afterWriting}
 use Rattle.lines.proofs.Same.{sheet-same}
+use Rattle.lines.proofs.Lengths.{closing-length}
+use Rattle.lines.proofs.Written.{counted-is, writes-by, afterwards}
 use Rattle.live.specs.Auction.{itemsAbove, reportsOf, wellFormed}
 use Rattle.live.specs.Calls.{isClosed}
 use Rattle.live.specs.Reading.{tooFew, namesOf, sheetOf, readNumber, readBytes}
@@ -45,29 +47,33 @@ module _ (r : Auction) (t : Tidy r) where
       sheet-same (r .items) (r .bidders) (r .raised) (r .lowered) (r .prices) (r .prices) (places 64 (namesOf r)) (namesOf r)
       (λ k l. refl) (λ b l. places-at 64 (namesOf r) b (omega (arith, l, most)))
 
-  writes-here : (out : List ℕ) → writes (r .items) (r .bidders) (length out) ≡ not (tooFew r out)
-  unfolding writes
-  writes-here out =
-      ap (λ (x : Bool). x && leb (r .bidders) 64 && leb (closingLength (r .items) (r .bidders)) (length out)) (le-leb (r .items) 32 (items-range r (t .counts) .1))
-      ∙ ap (λ (x : Bool). x && leb (closingLength (r .items) (r .bidders)) (length out)) (le-leb (r .bidders) 64 (bidders-range r (t .counts) .1))
-      ∙ go (lt-or-le (length out) (closingLength (r .items) (r .bidders)))
-    where
-      go : (length out < closingLength (r .items) (r .bidders)) ⊎ (closingLength (r .items) (r .bidders) ≤ length out)
-          → leb (closingLength (r .items) (r .bidders)) (length out) ≡ not (ltb (length out) (closingLength (r .items) (r .bidders)))
-      go (inl l) = lt-leb (closingLength (r .items) (r .bidders)) (length out) l ∙ sym (ap not (lt-ltb (length out) (closingLength (r .items) (r .bidders)) l))
-      go (inr l) = le-leb (closingLength (r .items) (r .bidders)) (length out) l ∙ sym (ap not (le-ltb (length out) (closingLength (r .items) (r .bidders)) l))
+  abbrev long : ℕ
+  long = closingLength (r .items) (r .bidders)
 
-  pub told : (out : List ℕ) (b : Bool) → b ≡ writes (r .items) (r .bidders) (length out) → b ≡ not (tooFew r out)
+  writes-here : (out : List ℕ) → writes (r .items) (r .bidders) (closingLength (r .items) (r .bidders)) (length out) ≡ not (tooFew r out)
+  writes-here out =
+      writes-by (r .items) (r .bidders) long (length out) true (counted-is (r .items) (r .bidders) (items-range r (t .counts) .1) (bidders-range r (t .counts) .1))
+      ∙ go (lt-or-le (length out) long)
+    where
+      go : (length out < long) ⊎ (long ≤ length out) → leb long (length out) ≡ not (ltb (length out) long)
+      go (inl l) = lt-leb long (length out) l ∙ sym (ap not (lt-ltb (length out) long l))
+      go (inr l) = le-leb long (length out) l ∙ sym (ap not (le-ltb (length out) long l))
+
+  pub told : (out : List ℕ) (b : Bool) → b ≡ writes (r .items) (r .bidders) (closingLength (r .items) (r .bidders)) (length out) → b ≡ not (tooFew r out)
   told out b e = e ∙ writes-here out
 
   pub left : (out options after : List ℕ) → options ≡ places 64 (namesOf r)
-      → after ≡ afterClosing (r .items) (r .bidders) (r .raised) (r .lowered) (r .prices) options out → after ≡ cond (tooFew r out) out (writtenTo out (sheetOf r))
-  unfolding afterClosing
+      → after ≡ afterWriting (r .items) (r .bidders) (closingSheet (r .items) (r .bidders) (r .raised) (r .lowered) (r .prices) options) out
+      → after ≡ cond (tooFew r out) out (writtenTo out (sheetOf r))
   left out options after q e =
-      e ∙ ap (λ (x : List ℕ). cond (writes (r .items) (r .bidders) (length out)) (writtenTo out (closingSheet (r .items) (r .bidders) (r .raised) (r .lowered) (r .prices) x)) out) q
-      ∙ ap (λ (x : List ℕ). cond (writes (r .items) (r .bidders) (length out)) (writtenTo out x) out) sheet-here
-      ∙ ap (λ (b : Bool). cond b (writtenTo out (sheetOf r)) out) (writes-here out) ∙ turned (tooFew r out)
+      e
+      ∙ ap (λ (x : List ℕ). afterWriting (r .items) (r .bidders) x out) (ap (closingSheet (r .items) (r .bidders) (r .raised) (r .lowered) (r .prices)) q ∙ sheet-here)
+      ∙ sym (afterwards (r .items) (r .bidders) (sheetOf r) long sheet-long out (not (tooFew r out)) (writes-here out))
+      ∙ turned (tooFew r out)
     where
+      sheet-long : length (sheetOf r) ≡ closingLength (r .items) (r .bidders)
+      sheet-long = unfold sheetOf in closing-length (r .items) (r .bidders) (r .raised) (r .lowered) (r .prices) (namesOf r)
+
       turned : (b : Bool) → cond (not b) (writtenTo out (sheetOf r)) out ≡ cond b out (writtenTo out (sheetOf r))
       turned true = refl
       turned false = refl

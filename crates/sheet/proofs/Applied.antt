@@ -8,7 +8,7 @@ use Rattle.sets.specs.Count.{anyBelow}
 use Rattle.sets.specs.Lists.{tabulate, places}
 use Rattle.rule.specs.Refusal.{first, badItems, badBidders, anyOver}
 use Rattle.digits.specs.Reading.{digitValue, digitAt, numberAt}
-use Rattle.lines.specs.Lines.{closingLength}
+use Rattle.lines.specs.Lines.{sealedLength}
 use Rattle.lines.specs.Reading.{numbersAt, endsAt, lineAt}
 use Rattle.bids.specs.Lent.{lineOf, rowsOf, sheetAbove, sheetOf}
 use Rattle.sheet.specs.BidSheet.{itemsIn, biddersIn, bidsAt, readSheet}
@@ -18,7 +18,7 @@ use Rattle.sheet.specs.Accepted.{sheetIn}
 
 -- the definitions that the cases compute with
 computing : Unit {0}
-unfolding anyBelow tabulate places first badItems badBidders anyOver digitValue digitAt numberAt closingLength numbersAt endsAt lineAt lineOf rowsOf sheetOf sheetAbove itemsIn biddersIn bidsAt readSheet itemsOf biddersOf bidSheetOf sheetRefusal bidSheetRefusal contents contentsOf sheetIn
+unfolding anyBelow tabulate places first badItems badBidders anyOver digitValue digitAt numberAt sealedLength numbersAt endsAt lineAt lineOf rowsOf sheetOf sheetAbove itemsIn biddersIn bidsAt readSheet itemsOf biddersOf bidSheetOf sheetRefusal bidSheetRefusal contents contentsOf sheetIn
 computing = tt
 
 -- the lines 01020001, 0002 and 0002
@@ -30,12 +30,12 @@ pub says : sheetIn twoBytes ≡ record { items = 1; start = 1 ∷ []; floors = 0
 unfolding computing
 says = refl
 
--- no number, with room for 23 bytes, and 3 with room for 22
-pub no-number : sheetRefusal twoBytes 23 ≡ 0
+-- no number, with room for 32 bytes, and 3 with room for 31: four lines, and not only the three that 23 are room for
+pub no-number : sheetRefusal twoBytes 32 ≡ 0
 unfolding computing
 no-number = refl
 
-pub too-few : sheetRefusal twoBytes 22 ≡ 3
+pub too-few : sheetRefusal twoBytes 31 ≡ 3
 unfolding computing
 too-few = refl
 

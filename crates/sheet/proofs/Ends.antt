@@ -9,9 +9,9 @@ use lib.ListN.{length}
 use borrow.Author.Tests.{lt-ltb, le-ltb}
 use Rattle.rule.specs.Refusal.{badItems, badBidders}
 use Rattle.rule.proofs.Refusal.{passed, given}
-use Rattle.lines.specs.Lines.{closingSheet, closingLength, writtenTo, writes, afterClosing}
-use Rattle.lines.proofs.Lengths.{closing-length}
-use Rattle.lines.proofs.Written.{changed}
+use Rattle.lines.specs.Lines.{sealedSheet, sealedLength, writtenTo, writes, afterWriting}
+use Rattle.lines.proofs.Lengths.{sealed-length}
+use Rattle.lines.proofs.Written.{afterwards}
 use Rattle.auction.specs.Sealed.{sealedOf}
 use Rattle.auction.specs.declared.Closing.{Closing}
 use Rattle.sheet.specs.BidSheet.{BidSheet}
@@ -51,16 +51,16 @@ module _ (m n : ℕ) (start bids out : List ℕ) where
   abbrev sheet : BidSheet
   sheet = record { items = m; bidders = n; start = start; bids = bids }
 
-  pub no-room : length out < closingLength m n → readRefusal sheet (length out) ≡ 3
+  pub no-room : length out < sealedLength m n → readRefusal sheet (length out) ≡ 3
   unfolding readRefusal
-  no-room l = given 3 (ltb (length out) (closingLength m n)) _ (lt-ltb (length out) (closingLength m n) l)
+  no-room l = given 3 (ltb (length out) (sealedLength m n)) _ (lt-ltb (length out) (sealedLength m n) l)
 
   -- with room, the sealed auction decides
-  pub by-sealed : badItems m ≡ false → badBidders n ≡ false → length start ≡ m → length bids ≡ n * m → closingLength m n ≤ length out
+  pub by-sealed : badItems m ≡ false → badBidders n ≡ false → length start ≡ m → length bids ≡ n * m → sealedLength m n ≤ length out
       → readRefusal sheet (length out) ≡ sealedOf m n start bids .refusal
   unfolding readRefusal
   by-sealed gi gb ls ld l =
-      passed 3 (ltb (length out) (closingLength m n)) _ (le-ltb (length out) (closingLength m n) l) ∙ sym (by-amounts-alone m n start bids gi gb ls ld)
+      passed 3 (ltb (length out) (sealedLength m n)) _ (le-ltb (length out) (sealedLength m n) l) ∙ sym (by-amounts-alone m n start bids gi gb ls ld)
 
   pub not-written : (r : Outcome) (why : ℕ) → 0 < why → readRefusal sheet (length out) ≡ why → r .refusal ≡ why → r .length ≡ 0 → ClosedRead sheet out r out
   not-written r why l e f g =
@@ -72,21 +72,18 @@ module _ (m n : ℕ) (start bids out : List ℕ) where
       }
 
   pub is-written : (c : Closing) (r : Outcome) (after : List ℕ) → readRefusal sheet (length out) ≡ 0 → c ≡ sealedOf m n start bids
-      → r .refusal ≡ 0 → r .length ≡ closingLength m n
-      → writes m n (length out) ≡ true → after ≡ afterClosing m n (c .raised) (c .lowered) (c .prices) (c .assignment) out
-      → ClosedRead sheet out r after
+      → r .refusal ≡ 0 → r .length ≡ sealedLength m n → writes m n (sealedLength m n) (length out) ≡ true
+      → after ≡ afterWriting m n (sealedSheet m n (c .raised) (c .lowered) (c .prices) (c .assignment) (c .gains)) out → ClosedRead sheet out r after
   unfolding closingOf
   is-written c r after e is f g t w =
-      let z : Closing = sealedOf m n start bids in
+      let text : Closing → List ℕ = λ x. sealedSheet m n (x .raised) (x .lowered) (x .prices) (x .assignment) (x .gains) in
+      let long : (x : Closing) → length (text x) ≡ sealedLength m n = λ x. sealed-length m n (x .raised) (x .lowered) (x .prices) (x .assignment) (x .gains) in
       record {
         number = f ∙ sym e;
-        written =
-            g
-            ∙ sym (closing-length m n (z .raised) (z .lowered) (z .prices) (z .assignment))
-            ∙ ap (λ (k : ℕ). byNumber k (length (closingOf sheet)) 0) (sym e);
+        written = g ∙ sym (long (sealedOf m n start bids)) ∙ ap (λ (k : ℕ). byNumber k (length (closingOf sheet)) 0) (sym e);
         lent =
             w
-            ∙ sym (changed m n (c .raised) (c .lowered) (c .prices) (c .assignment) out t)
-            ∙ ap (λ (x : Closing). writtenTo out (closingSheet m n (x .raised) (x .lowered) (x .prices) (x .assignment))) is
+            ∙ sym (afterwards m n (text c) (sealedLength m n) (long c) out true t)
+            ∙ ap (λ (x : Closing). writtenTo out (text x)) is
             ∙ ap (λ (k : ℕ). byNumber k (writtenTo out (closingOf sheet)) out) (sym e);
       }

@@ -8,7 +8,7 @@ use native.Mathlib.Omega.{arith}
 use lib.Dec.{ltb}
 use Rattle.rule.specs.Refusal.{on, first, badItems, badBidders, anyOver}
 use Rattle.rule.proofs.Refusal.{none as not-given}
-use Rattle.lines.specs.Lines.{closingLength}
+use Rattle.lines.specs.Lines.{sealedLength}
 use Rattle.sheet.specs.BidSheet.{BidSheet, readSheet}
 use Rattle.sheet.specs.Writing.{Writable}
 use Rattle.sheet.specs.Close.{isNone, itemsOf, biddersOf, bidSheetOf, unreadable, sheetRefusal}
@@ -57,5 +57,5 @@ module _ (bytes : List ℕ) (z : first (unreadable bytes []) ≡ 0) where
   unfolding sheetRefusal readRefusal
   to-read room =
       goes-on bytes _ z
-      ∙ ap₂ (λ (m n : ℕ). first (on 3 (ltb room (closingLength m n)) ∷ on 4 (anyOver (bidSheetOf bytes .start)) ∷ on 5 (anyOver (bidSheetOf bytes .bids)) ∷ []))
+      ∙ ap₂ (λ (m n : ℕ). first (on 3 (ltb room (sealedLength m n)) ∷ on 4 (anyOver (bidSheetOf bytes .start)) ∷ on 5 (anyOver (bidSheetOf bytes .bids)) ∷ []))
       (readable .many-items) (readable .many-bidders)

@@ -12,7 +12,7 @@ use Rattle.sets.proofs.Lists.{places-length, take-places}
 use Rattle.sets.proofs.Filling.{front-places}
 use Rattle.rule.specs.Refusal.{first}
 use Rattle.rule.proofs.Refusal.{passed}
-use Rattle.lines.specs.Lines.{closingLength}
+use Rattle.lines.specs.Lines.{sealedLength}
 use Rattle.bids.specs.Lent.{sheetOf}
 use Rattle.bids.specs.Refusal.{sealedRefusal}
 use Rattle.sheet.specs.BidSheet.{BidSheet}
@@ -156,11 +156,11 @@ module _ (bytes : List ℕ) (r : Contents) (e : r ≡ contentsOf bytes) where
 
 -- ---- the number is that of closing with room for every closing sheet
 
-fits : (m n room : ℕ) → m ≤ 32 → n ≤ 64 → 271 ≤ room → ltb room (closingLength m n) ≡ false
-unfolding closingLength
-fits m n room h l k = le-ltb room (15 + 4 * m + 2 * n) (omega arith)
+fits : (m n room : ℕ) → m ≤ 32 → n ≤ 64 → 528 ≤ room → ltb room (sealedLength m n) ≡ false
+unfolding sealedLength
+fits m n room h l k = le-ltb room (16 + 4 * m + 6 * n) (omega arith)
 
-pub same-number : (bytes : List ℕ) (room : ℕ) → 271 ≤ room → bidSheetRefusal bytes ≡ sheetRefusal bytes room
+pub same-number : (bytes : List ℕ) (room : ℕ) → 528 ≤ room → bidSheetRefusal bytes ≡ sheetRefusal bytes room
 unfolding bidSheetRefusal sheetRefusal
 same-number bytes room large =
     same-rest bytes _ _ (λ z.

@@ -1,4 +1,4 @@
--- 271 bytes are room for every closing sheet: with as many or more, 3 is not given. Assumes nothing.
+-- 528 bytes are room for every closing sheet: with as many or more, 3 is not given. Assumes nothing.
 use Prim.Native.Nat.{ℕ, _≤_}
 use mathlib.Core.Path.{_≡_, _∙_}
 use mathlib.Core.List.{List, []}
@@ -9,7 +9,7 @@ use Rattle.sheet.specs.Contents.{bidSheetRefusal}
 use Rattle.sheet.proofs.Sixes.{none-left}
 use Rattle.sheet.proofs.Reading.{same-number}
 
-pub no-three : (bytes : List ℕ) (room : ℕ) → 271 ≤ room → sheetRefusal bytes room ≡ 3 → ⊥
+pub no-three : (bytes : List ℕ) (room : ℕ) → 528 ≤ room → sheetRefusal bytes room ≡ 3 → ⊥
 unfolding bidSheetRefusal
 no-three bytes room large three =
     other 6 3 _ _ (λ z. omega arith)

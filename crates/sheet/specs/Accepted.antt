@@ -6,7 +6,8 @@ use mathlib.Core.List.{List}
 use lib.ListN.{length}
 use Rattle.rule.specs.Sheet.{Sheet}
 use Rattle.rule.specs.Closing.{assignmentAt, Closing}
-use Rattle.lines.specs.Lines.{closingSheet, writtenTo}
+use Rattle.rule.specs.Gains.{gainsAt}
+use Rattle.lines.specs.Lines.{sealedSheet, writtenTo}
 use Rattle.bids.specs.Lent.{sheetOf}
 use Rattle.auction.specs.Sealed.{sealedOf, Promised}
 use Rattle.auction.specs.declared.Closing as auction
@@ -21,9 +22,9 @@ sheetIn bytes = let s : BidSheet = bidSheetOf bytes in sheetOf (s .items) (s .bi
 unfoldable pub sealedIn : List ℕ → auction.Closing
 sealedIn bytes = let s : BidSheet = bidSheetOf bytes in sealedOf (s .items) (s .bidders) (s .start) (s .bids)
 
--- the closing sheet of a sheet's closing: its rounds raised, its rounds lowered, its closing prices, its names
+-- the closing sheet of a sheet's closing: its rounds raised, its rounds lowered, its closing prices, its names, and what each bidder gains from them
 unfoldable pub sheetOfClosing : (s : Sheet) → Closing s → List ℕ
-sheetOfClosing s c = closingSheet (s .items) (length (s .bids)) (c .ups) (c .downs) (c .prices) (assignmentAt s (c .prices))
+sheetOfClosing s c = sealedSheet (s .items) (length (s .bids)) (c .ups) (c .downs) (c .prices) (assignmentAt s (c .prices)) (gainsAt s (c .prices))
 
 -- the lent bytes `out` are left as `after`: the sheet that the bytes say is within the limits and has a closing, of which the rule says all that demand 3 asks,
 -- the outcome stands for it, and its closing sheet is what was written

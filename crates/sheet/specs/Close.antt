@@ -6,7 +6,7 @@ use mathlib.Core.Option.{Option, none, some, Option·getD}
 use lib.Dec.{ltb}
 use lib.ListN.{length}
 use Rattle.rule.specs.Refusal.{Refusal, on, first, badItems, badBidders, anyOver}
-use Rattle.lines.specs.Lines.{numberLine, closingSheet, closingLength, writtenTo}
+use Rattle.lines.specs.Lines.{numberLine, sealedSheet, sealedLength, writtenTo}
 use Rattle.auction.specs.Sealed.{sealedOf}
 use Rattle.sheet.specs.BidSheet.{BidSheet, itemsIn, biddersIn, readSheet}
 
@@ -39,7 +39,7 @@ unfoldable pub sheetRefusal : List ℕ → (room : ℕ) → ℕ
 sheetRefusal bytes room =
     first
     (unreadable bytes
-    (on 3 (ltb room (closingLength (itemsOf bytes) (biddersOf bytes)))
+    (on 3 (ltb room (sealedLength (itemsOf bytes) (biddersOf bytes)))
     ∷ on 4 (anyOver (bidSheetOf bytes .start))
     ∷ on 5 (anyOver (bidSheetOf bytes .bids))
     ∷ []))
@@ -48,7 +48,7 @@ sheetRefusal bytes room =
 unfoldable pub closingOf : BidSheet → List ℕ
 closingOf s =
     let c = sealedOf (s .items) (s .bidders) (s .start) (s .bids) in
-    closingSheet (s .items) (s .bidders) (c .raised) (c .lowered) (c .prices) (c .assignment)
+    sealedSheet (s .items) (s .bidders) (c .raised) (c .lowered) (c .prices) (c .assignment) (c .gains)
 
 -- the one where no number was given, the other where one was
 abbrev pub byNumber : {A : Type 0} → ℕ → A → A → A

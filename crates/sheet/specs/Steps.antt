@@ -7,7 +7,7 @@ use mathlib.Core.Option.{Option, none, some}
 use lib.Dec.{ltb}
 use lib.ListN.{length}
 use Rattle.rule.specs.Refusal.{on, first, anyOver}
-use Rattle.lines.specs.Lines.{closingLength, writtenTo}
+use Rattle.lines.specs.Lines.{sealedLength, writtenTo}
 use Rattle.sheet.specs.BidSheet.{BidSheet}
 use Rattle.sheet.specs.Close.{bidSheetOf, sheetRefusal, closingOf, byNumber, closedTo}
 use Rattle.sheet.specs.declared.Outcome.{Outcome}
@@ -19,7 +19,7 @@ readAs t xs = cond t (some xs) none
 -- the number that turns a sheet down that was read and has its counts in order
 unfoldable pub readRefusal : BidSheet → (room : ℕ) → ℕ
 readRefusal s room =
-    first (on 3 (ltb room (closingLength (s .items) (s .bidders))) ∷ on 4 (anyOver (s .start)) ∷ on 5 (anyOver (s .bids)) ∷ [])
+    first (on 3 (ltb room (sealedLength (s .items) (s .bidders))) ∷ on 4 (anyOver (s .start)) ∷ on 5 (anyOver (s .bids)) ∷ [])
 
 -- how such a sheet came out: the number, how many bytes were written, and the lent bytes before and afterwards
 pub record ClosedRead (s : BidSheet) (before : List ℕ) (r : Outcome) (after : List ℕ) : Type 0 where

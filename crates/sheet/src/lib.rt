@@ -207,7 +207,7 @@ fn close_read(items: usize, bidders: usize, start: &[u16], bids: &[u16], out: &m
     ensures { λ r. ⌜ ClosedRead (record { items = items; bidders = bidders; start = now (start .entry); bids = now (bids .entry) })
         (now (out .entry)) r (now (out .exit)) ⌝ }
 {
-    let long = lines::closing_length(items, bidders);
+    let long = lines::sealed_length(items, bidders);
     if out.len() < long {
         return refused(3);
     }
@@ -216,7 +216,7 @@ fn close_read(items: usize, bidders: usize, start: &[u16], bids: &[u16], out: &m
     if 0 < why {
         return refused(why);
     }
-    lines::write_closing(
+    lines::write_sealed(
         out,
         items,
         bidders,
@@ -224,6 +224,7 @@ fn close_read(items: usize, bidders: usize, start: &[u16], bids: &[u16], out: &m
         c.lowered,
         &c.prices,
         &c.assignment,
+        &c.gains,
     );
     Outcome {
         refusal: why,

@@ -1,32 +1,42 @@
 -- `lines::closing_length` meets its contract. Assumes nothing.
-use mathlib.Core.Path.{sym}
+use mathlib.Core.Path.{_≡_, sym, _∙_}
+use mathlib.Core.Bool.{true, false}
+use native.Mathlib.Omega.{arith}
 use borrow.Author.Needs.{needs}
-use Rattle.lines.specs.Lines.{closingLength}
-use Rattle.lines.proofs.Written.{bytes-items, bytes-bidders, bytes-are}
+use borrow.Author.Tests.{not-true, not-false}
+use Rattle.lines.specs.Lines.{closingLength, counted}
+use Rattle.lines.proofs.Written.{is-counted, bytes-by}
 use Rattle.lines.proofs.closing_length.Statement.{statement}
 use Rattle.lines.proofs.closing_length.Tie as tie
 
-returns : tie.Need-returns
-returns c = sym (bytes-items (c .before .args .items) (c .before .args .bidders) (c .if1 .taken))
+counted-requires : tie.Need-counted-requires
+counted-requires c κs = search needs
 
-returns-2 : tie.Need-returns-2
-returns-2 c = sym (bytes-bidders (c .before .before .args .items) (c .before .before .args .bidders) (c .if2 .taken))
+returns : tie.Need-returns
+returns c =
+    let a = c .before .before .args in
+    sym (bytes-by (a .items) (a .bidders) (closingLength (a .items) (a .bidders)) false (sym (c .before .counted .ensures) ∙ not-true (c .before .counted .result) (c .if1 .taken)))
+
+few : (c : tie.Else1) → counted (c .before .before .args .items) (c .before .before .args .bidders) ≡ true
+few c = sym (c .before .counted .ensures) ∙ not-false (c .before .counted .result) (c .if1 .left)
 
 mul-result : tie.Need-mul-result
-mul-result c = search needs
+mul-result c = omega (arith, is-counted (c .before .before .args .items) (c .before .before .args .bidders) (few c) .max-items)
 
 add-result : tie.Need-add-result
-add-result c = search needs
+add-result c = omega (arith, is-counted (c .before .before .args .items) (c .before .before .args .bidders) (few c) .max-items)
 
 mul-result-2 : tie.Need-mul-result-2
-mul-result-2 c = search needs
+mul-result-2 c = omega (arith, is-counted (c .before .before .args .items) (c .before .before .args .bidders) (few c) .max-bidders)
 
 add-result-2 : tie.Need-add-result-2
-add-result-2 c = search needs
+add-result-2 c =
+    let k = is-counted (c .before .before .args .items) (c .before .before .args .bidders) (few c) in
+    omega (arith, k .max-items, k .max-bidders)
 
-returns-3 : tie.Need-returns-3
+returns-2 : tie.Need-returns-2
 unfolding closingLength
-returns-3 c = sym (bytes-are (c .before .before .args .items) (c .before .before .args .bidders) (c .before .if1 .left) (c .if2 .left))
+returns-2 c = let a = c .before .before .args in sym (bytes-by (a .items) (a .bidders) (closingLength (a .items) (a .bidders)) true (few c))
 
 pub closing-length-spec : {M : Type 1} → statement M
-closing-length-spec = tie.close (tie.spec returns returns-2 mul-result add-result mul-result-2 add-result-2 returns-3)
+closing-length-spec = tie.close (tie.spec counted-requires returns mul-result add-result mul-result-2 add-result-2 returns-2)

@@ -4,10 +4,10 @@ use mathlib.Core.Path.{_≡_, sym, ap, _∙_, subst}
 use native.Mathlib.Omega.{arith}
 use lib.ListN.{length}
 use borrow.Author.Needs.{needs}
-use mathlib.Core.Bool.{false}
+use mathlib.Core.Bool.{true, false}
 use Rattle.rule.specs.Refusal.{badItems, badBidders}
-use Rattle.lines.specs.Lines.{closingLength, closingBytes}
-use Rattle.lines.proofs.Written.{enough, bytes-are}
+use Rattle.lines.specs.Lines.{sealedLength, bytesOf}
+use Rattle.lines.proofs.Written.{counted-is, bytes-by, written-is}
 use Rattle.auction.specs.declared.Closing.{Closing}
 use Rattle.sheet.specs.Steps.{readRefusal}
 use Rattle.sheet.proofs.Ends.{no-room, by-sealed, not-written, is-written}
@@ -16,11 +16,11 @@ use Rattle.sheet.proofs.close_read.Statement.{statement}
 use Rattle.sheet.proofs.close_read.Tie as tie
 
 -- counts in order make a closing sheet
-long : (m n : ℕ) → badItems m ≡ false → badBidders n ≡ false → closingBytes m n ≡ closingLength m n
-long m n e f = bytes-are m n (most-items m e) (most-bidders n f)
+long : (m n : ℕ) → badItems m ≡ false → badBidders n ≡ false → bytesOf m n (sealedLength m n) ≡ sealedLength m n
+long m n e f = bytes-by m n (sealedLength m n) true (counted-is m n (most-items m e) (most-bidders n f))
 
-closing-length-requires : tie.Need-closing-length-requires
-closing-length-requires c κs = search needs
+sealed-length-requires : tie.Need-sealed-length-requires
+sealed-length-requires c κs = search needs
 
 refused-requires : tie.Need-refused-requires
 refused-requires c κs = search needs
@@ -29,8 +29,8 @@ returns : tie.Need-returns
 returns c =
     let a = c .before .before .before .before .before .before .args in
     let p = c .before .before .before .before .before .before .pre in
-    let less : length (a .out .now) < closingLength (a .items) (a .bidders) =
-    subst (λ (k : ℕ). length (a .out .now) < k) (c .before .before .closing-length .ensures ∙ long (a .items) (a .bidders) (p .0) (p .1)) (c .before .if1 .taken) in
+    let less : length (a .out .now) < sealedLength (a .items) (a .bidders) =
+    subst (λ (k : ℕ). length (a .out .now) < k) (c .before .before .sealed-length .ensures ∙ long (a .items) (a .bidders) (p .0) (p .1)) (c .before .if1 .taken) in
     not-written (a .items) (a .bidders) (a .start .now) (a .bids .now) (a .out .now) (c .refused .result) 3 (omega arith)
     (no-room (a .items) (a .bidders) (a .start .now) (a .bids .now) (a .out .now) less)
     (c .refused .ensures .0) (c .refused .ensures .1)
@@ -42,11 +42,11 @@ refused-requires-2 : tie.Need-refused-requires-2
 refused-requires-2 c κs = search needs
 
 -- there is room
-room : (c : tie.Else1) → closingLength (c .before .before .before .before .before .args .items) (c .before .before .before .before .before .args .bidders) ≤ length (c .before .before .before .before .before .args .out .now)
+room : (c : tie.Else1) → sealedLength (c .before .before .before .before .before .args .items) (c .before .before .before .before .before .args .bidders) ≤ length (c .before .before .before .before .before .args .out .now)
 room c =
     let a = c .before .before .before .before .before .args in
     let p = c .before .before .before .before .before .pre in
-    subst (λ (k : ℕ). k ≤ length (a .out .now)) (c .before .closing-length .ensures ∙ long (a .items) (a .bidders) (p .0) (p .1)) (c .if1 .left)
+    subst (λ (k : ℕ). k ≤ length (a .out .now)) (c .before .sealed-length .ensures ∙ long (a .items) (a .bidders) (p .0) (p .1)) (c .if1 .left)
 
 -- the number is the sealed auction's
 number : (c : tie.After-sealed)
@@ -64,34 +64,34 @@ returns-2 c =
     not-written (a .items) (a .bidders) (a .start .now) (a .bids .now) (a .out .now) (c .refused2 .result) (c .before .before .sealed .result .refusal) (omega arith)
     (number (c .before .before)) (c .refused2 .ensures .0) (c .refused2 .ensures .1)
 
-write-closing-requires : tie.Need-write-closing-requires
-write-closing-requires c κs = search needs
+write-sealed-requires : tie.Need-write-sealed-requires
+write-sealed-requires c κs = search needs
 
 same-length : tie.Need-same-length
 same-length c = search needs
 
 returns-3 : tie.Need-returns-3
 returns-3 c =
-    let here = c .before .before .before .before .before .before .before .before in
+    let here = c .before .before .before .before .before .before .before .before .before in
     let a = here .before .before .before .before .before .before .args in
     let p = here .before .before .before .before .before .before .pre in
     let q = here .sealed .result in
     let none-given : q .refusal ≡ 0 = omega arith in
     is-written (a .items) (a .bidders) (a .start .now) (a .bids .now) (a .out .now) q _ _ (number here ∙ none-given) (here .sealed .ensures .0)
-    none-given (here .before .before .closing-length .ensures ∙ long (a .items) (a .bidders) (p .0) (p .1))
-    (enough (a .items) (a .bidders) (length (a .out .now)) (most-items (a .items) (p .0)) (most-bidders (a .bidders) (p .1)) (room (here .before)))
-    (c .before .before .write-closing .ensures .1)
+    none-given (here .before .before .sealed-length .ensures ∙ long (a .items) (a .bidders) (p .0) (p .1))
+    (written-is (a .items) (a .bidders) (sealedLength (a .items) (a .bidders)) (length (a .out .now)) (most-items (a .items) (p .0)) (most-bidders (a .bidders) (p .1)) (room (here .before)))
+    (c .before .before .write-sealed .ensures .1)
 
 pub close-read-spec : {M : Type 1} → statement M
 close-read-spec =
     tie.close
     (tie.spec
-    closing-length-requires
+    sealed-length-requires
     refused-requires
     returns
     sealed-requires
     refused-requires-2
     returns-2
-    write-closing-requires
+    write-sealed-requires
     same-length
     returns-3)
