@@ -25,17 +25,20 @@ no-number why true e = absurd (go (eqb why 1 || eqb why 2) refl e)
     go true q z = not-both true refl (sym q ∙ ap (λ (x : ℕ). eqb x 1 || eqb x 2) z)
     go false q z = omega arith
 
-pub record Accepted (m n : ℕ) (rounds prices options : List ℕ) : Type 0 where
+pub record Accepted (m n : ℕ) (rounds prices options gains : List ℕ) : Type 0 where
   pub two : length rounds ≡ 2
   pub as-items : length prices ≡ m
   pub as-bidders : length options ≡ n
+  pub gain-each : length gains ≡ n
 
-pub accepted : (m n : ℕ) (rounds prices options : List ℕ) → unfit m n rounds prices options ≡ false → Accepted m n rounds prices options
+pub accepted : (m n : ℕ) (rounds prices options gains : List ℕ) → unfit m n rounds prices options gains ≡ false → Accepted m n rounds prices options gains
 unfolding unfit
-accepted m n rounds prices options u =
-    let v = or-left-false (badLength rounds 2 || badLength prices m) (badLength options n) u in
+accepted m n rounds prices options gains u =
+    let w = or-left-false (badLength rounds 2 || badLength prices m || badLength options n) (badLength gains n) u in
+    let v = or-left-false (badLength rounds 2 || badLength prices m) (badLength options n) w in
     record {
       two = exact-is rounds 2 (or-left-false (badLength rounds 2) (badLength prices m) v);
       as-items = exact-is prices m (or-right-false (badLength rounds 2) (badLength prices m) v);
-      as-bidders = exact-is options n (or-right-false (badLength rounds 2 || badLength prices m) (badLength options n) u);
+      as-bidders = exact-is options n (or-right-false (badLength rounds 2 || badLength prices m) (badLength options n) w);
+      gain-each = exact-is gains n (or-right-false (badLength rounds 2 || badLength prices m || badLength options n) (badLength gains n) u);
     }

@@ -23,36 +23,36 @@ both (x ∷ y ∷ []) a b e = refl
 both (x ∷ y ∷ z ∷ xs) a b e = absurd (omega arith)
 
 -- the number of the call, and the counts of an auction that is not turned down
-pub lent-sealed : (m n : ℕ) (start bids rounds prices options : List ℕ)
-    → withLengths (sealedOf m n start bids .refusal) (unfit m n rounds prices options) ≡ lentRefusal m n start bids rounds prices options
+pub lent-sealed : (m n : ℕ) (start bids rounds prices options gains : List ℕ)
+    → withLengths (sealedOf m n start bids .refusal) (unfit m n rounds prices options gains) ≡ lentRefusal m n start bids rounds prices options gains
 unfolding lentRefusal sealedRefusal
-lent-sealed m n start bids rounds prices options =
-    ap (λ (k : ℕ). withLengths k (unfit m n rounds prices options)) (sealed-number m n start bids)
-    ∙ in-order (badItems m) (badBidders n) (badLength start m) (badLength bids (n * m)) (anyOver start) (anyOver bids) (unfit m n rounds prices options)
+lent-sealed m n start bids rounds prices options gains =
+    ap (λ (k : ℕ). withLengths k (unfit m n rounds prices options gains)) (sealed-number m n start bids)
+    ∙ in-order (badItems m) (badBidders n) (badLength start m) (badLength bids (n * m)) (anyOver start) (anyOver bids) (unfit m n rounds prices options gains)
 
 -- with floors, whatever the outcome is, if it has the number of the sheet
-above-in-order : (m n : ℕ) (start floors bids rounds prices options : List ℕ) (why : ℕ) → why ≡ sealedAboveRefusal m n start floors bids
-    → withLengths why (unfit m n rounds prices options) ≡ lentAboveRefusal m n start floors bids rounds prices options
+above-in-order : (m n : ℕ) (start floors bids rounds prices options gains : List ℕ) (why : ℕ) → why ≡ sealedAboveRefusal m n start floors bids
+    → withLengths why (unfit m n rounds prices options gains) ≡ lentAboveRefusal m n start floors bids rounds prices options gains
 unfolding lentAboveRefusal sealedAboveRefusal
-above-in-order m n start floors bids rounds prices options why e =
-    ap (λ (k : ℕ). withLengths k (unfit m n rounds prices options)) e
+above-in-order m n start floors bids rounds prices options gains why e =
+    ap (λ (k : ℕ). withLengths k (unfit m n rounds prices options gains)) e
     ∙ in-order-above (badItems m) (badBidders n) (badLength start m) (badLength floors m) (badLength bids (n * m)) (anyOver start) (badFloors start floors) (anyOver bids)
-    (unfit m n rounds prices options)
+    (unfit m n rounds prices options gains)
 
 above-counts : (m n : ℕ) (start floors bids : List ℕ) (why : ℕ) → why ≡ sealedAboveRefusal m n start floors bids → why ≡ 0 → (m ≤ 32) × (n ≤ 64)
 above-counts m n start floors bids why e z = let f = fine m n start floors bids (sym e ∙ z) in (f .max-items, f .max-bidders)
 
 module _ (m n : ℕ) (start floors bids : List ℕ) where
-  pub lent-above : (rounds prices options : List ℕ)
-      → withLengths (sealedAboveOf m n start floors bids .refusal) (unfit m n rounds prices options) ≡ lentAboveRefusal m n start floors bids rounds prices options
-  lent-above rounds prices options = above-in-order m n start floors bids rounds prices options _ (above-number m n start floors bids)
+  pub lent-above : (rounds prices options gains : List ℕ)
+      → withLengths (sealedAboveOf m n start floors bids .refusal) (unfit m n rounds prices options gains) ≡ lentAboveRefusal m n start floors bids rounds prices options gains
+  lent-above rounds prices options gains = above-in-order m n start floors bids rounds prices options gains _ (above-number m n start floors bids)
 
   pub counts-above : sealedAboveOf m n start floors bids .refusal ≡ 0 → (m ≤ 32) × (n ≤ 64)
   counts-above = above-counts m n start floors bids _ (above-number m n start floors bids)
 
-  pub lent-falling : (rounds prices options : List ℕ)
-      → withLengths (fallingFirstOf m n start floors bids .refusal) (unfit m n rounds prices options) ≡ lentAboveRefusal m n start floors bids rounds prices options
-  lent-falling rounds prices options = above-in-order m n start floors bids rounds prices options _ (falling-number m n start floors bids)
+  pub lent-falling : (rounds prices options gains : List ℕ)
+      → withLengths (fallingFirstOf m n start floors bids .refusal) (unfit m n rounds prices options gains) ≡ lentAboveRefusal m n start floors bids rounds prices options gains
+  lent-falling rounds prices options gains = above-in-order m n start floors bids rounds prices options gains _ (falling-number m n start floors bids)
 
   pub counts-falling : fallingFirstOf m n start floors bids .refusal ≡ 0 → (m ≤ 32) × (n ≤ 64)
   counts-falling = above-counts m n start floors bids _ (falling-number m n start floors bids)
@@ -66,17 +66,18 @@ kept zero a b h = absurd (h refl)
 kept (suc why) a b h = refl
 
 -- what a call answers, which is the number, and leaves of an outcome
-abbrev Lends : (number m n : ℕ) (c : Closing) (rounds prices options : List ℕ) (why : ℕ) (rounds′ prices′ options′ : List ℕ) → Type 0
-Lends number m n c rounds prices options why rounds′ prices′ options′ =
+abbrev Lends : (number m n : ℕ) (c : Closing) (rounds prices options gains : List ℕ) (why : ℕ) (rounds′ prices′ options′ gains′ : List ℕ) → Type 0
+Lends number m n c rounds prices options gains why rounds′ prices′ options′ gains′ =
     (why ≡ number)
     × ((rounds′ ≡ byNumber why (c .raised ∷ c .lowered ∷ []) rounds)
-    × ((prices′ ≡ byNumber why (places m (c .prices)) prices) × (options′ ≡ byNumber why (places n (c .assignment)) options)))
+    × ((prices′ ≡ byNumber why (places m (c .prices)) prices)
+    × ((options′ ≡ byNumber why (places n (c .assignment)) options) × (gains′ ≡ byNumber why (places n (c .gains)) gains))))
 
 -- what `lend` promises of the code's outcome, said of the outcome that it is
-pub lent : (m n : ℕ) (rounds prices options : List ℕ) {r c : Closing} {number why : ℕ} {rounds′ prices′ options′ : List ℕ} → r ≡ c
-    → withLengths (c .refusal) (unfit m n rounds prices options) ≡ number
-    → Lends (withLengths (r .refusal) (unfit m n rounds prices options)) m n r rounds prices options why rounds′ prices′ options′
-    → Lends number m n c rounds prices options why rounds′ prices′ options′
-lent m n rounds prices options {why = why} {rounds′ = rounds′} {prices′ = prices′} {options′ = options′} e q l =
-    let k = subst (λ (x : Closing). Lends (withLengths (x .refusal) (unfit m n rounds prices options)) m n x rounds prices options why rounds′ prices′ options′) e l in
+pub lent : (m n : ℕ) (rounds prices options gains : List ℕ) {r c : Closing} {number why : ℕ} {rounds′ prices′ options′ gains′ : List ℕ} → r ≡ c
+    → withLengths (c .refusal) (unfit m n rounds prices options gains) ≡ number
+    → Lends (withLengths (r .refusal) (unfit m n rounds prices options gains)) m n r rounds prices options gains why rounds′ prices′ options′ gains′
+    → Lends number m n c rounds prices options gains why rounds′ prices′ options′ gains′
+lent m n rounds prices options gains {why = why} {rounds′ = rounds′} {prices′ = prices′} {options′ = options′} {gains′ = gains′} e q l =
+    let k = subst (λ (x : Closing). Lends (withLengths (x .refusal) (unfit m n rounds prices options gains)) m n x rounds prices options gains why rounds′ prices′ options′ gains′) e l in
     (k .0 ∙ q, k .1)

@@ -4,9 +4,11 @@ use mathlib.Core.Path.{_≡_}
 use mathlib.Core.List.{List, [], _∷_}
 use Rattle.rule.specs.Sheet.{Sheet}
 use Rattle.rule.specs.Closing.{assignmentAt}
+use Rattle.rule.specs.Gains.{gainsAt}
 
--- the lists hold the rounds raised and lowered of a sheet's closing, its closing prices and the names at them, and nothing else
-pub record LentBack (s : Sheet) (ups downs : ℕ) (closing rounds prices options : List ℕ) : Type 0 where
+-- the lists hold the rounds raised and lowered of a sheet's closing, its closing prices, the names at them and the gains from these, and nothing else
+pub record LentBack (s : Sheet) (ups downs : ℕ) (closing rounds prices options gains : List ℕ) : Type 0 where
   pub played : rounds ≡ ups ∷ downs ∷ []
   pub priced : prices ≡ closing
   pub named : options ≡ assignmentAt s closing
+  pub gained : gains ≡ gainsAt s closing

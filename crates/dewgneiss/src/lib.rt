@@ -10,15 +10,15 @@ ghost use Rattle.sheet.specs.Close.{sheetRefusal, closedTo, byNumber};
 ghost use Rattle.reasons.specs.Sheets.{answerOf};
 ghost use Rattle.dewgneiss.specs.Lent.{unfit, lentRefusal, lentAboveRefusal, withLengths};
 
-// Copies the first prices, as many as there are places.
-fn put_prices(out: &mut [u16], prices: &[u16; 32])
-    requires { ⌜ length (now out) ≤ 32 ⌝ }
-    ensures { λ _. ⌜ now (out .exit) ≡ places (length (now (out .entry))) (now (prices .entry)) ⌝ }
+// Copies the first amounts, prices or gains, as many as there are places.
+fn put_amounts(out: &mut [u16], amounts: &[u16])
+    requires { ⌜ length (now out) ≤ length (now amounts) ⌝ }
+    ensures { λ _. ⌜ now (out .exit) ≡ places (length (now (out .entry))) (now (amounts .entry)) ⌝ }
 {
     let n = out.len();
     let mut i: usize = 0;
     while i < n {
-        out[i] = prices[i];
+        out[i] = amounts[i];
         i += 1;
     }
 }
@@ -37,8 +37,15 @@ fn put_options(out: &mut [u8], options: &[u8; 64])
 }
 
 // Whether the lists lent for the results are not exact.
-fn unfit(items: usize, bidders: usize, rounds: &[u32], prices: &[u16], options: &[u8]) -> bool
-    ensures { λ r. ⌜ r ≡ unfit items bidders (now (rounds .entry)) (now (prices .entry)) (now (options .entry)) ⌝ }
+fn unfit(
+    items: usize,
+    bidders: usize,
+    rounds: &[u32],
+    prices: &[u16],
+    options: &[u8],
+    gains: &[u16],
+) -> bool
+    ensures { λ r. ⌜ r ≡ unfit items bidders (now (rounds .entry)) (now (prices .entry)) (now (options .entry)) (now (gains .entry)) ⌝ }
 {
     if rounds.len() != 2 {
         return true;
@@ -47,6 +54,9 @@ fn unfit(items: usize, bidders: usize, rounds: &[u32], prices: &[u16], options: 
         return true;
     }
     if options.len() != bidders {
+        return true;
+    }
+    if gains.len() != bidders {
         return true;
     }
     false
@@ -78,17 +88,26 @@ fn put_rounds(out: &mut [u32], raised: u32, lowered: u32)
 }
 
 // An outcome, into lists that fit it.
-fn put_closing(c: auction::Closing, rounds: &mut [u32], prices: &mut [u16], options: &mut [u8])
-    requires { ⌜ (length (now rounds) ≡ 2) × (length (now prices) ≤ 32) × (length (now options) ≤ 64) ⌝ }
+fn put_closing(
+    c: auction::Closing,
+    rounds: &mut [u32],
+    prices: &mut [u16],
+    options: &mut [u8],
+    gains: &mut [u16],
+)
+    requires { ⌜ (length (now rounds) ≡ 2) × (length (now prices) ≤ 32) × (length (now options) ≤ 64) × (length (now gains) ≤ 64) ⌝ }
     ensures { λ _. ⌜ (now (rounds .exit) ≡ c .raised ∷ c .lowered ∷ [])
         × (now (prices .exit) ≡ places (length (now (prices .entry))) (c .prices))
-        × (now (options .exit) ≡ places (length (now (options .entry))) (c .assignment)) ⌝ }
+        × (now (options .exit) ≡ places (length (now (options .entry))) (c .assignment))
+        × (now (gains .exit) ≡ places (length (now (gains .entry))) (c .gains)) ⌝ }
 {
     let closing = c.prices;
     let names = c.assignment;
+    let gained = c.gains;
     put_rounds(rounds, c.raised, c.lowered);
-    put_prices(prices, &closing);
+    put_amounts(prices, &closing);
     put_options(options, &names);
+    put_amounts(gains, &gained);
 }
 
 // Lends an outcome back: answers 0 and leaves it in lists that fit it, or answers the number that turns the call down, and leaves them as they came.
@@ -99,24 +118,29 @@ fn lend(
     rounds: &mut [u32],
     prices: &mut [u16],
     options: &mut [u8],
+    gains: &mut [u16],
 ) -> u8
     requires { ⌜ (c .refusal ≡ 0 → (items ≤ 32) × (bidders ≤ 64)) ⌝ }
-    ensures number { λ r. ⌜ r ≡ withLengths (c .refusal) (unfit items bidders (now (rounds .entry)) (now (prices .entry)) (now (options .entry))) ⌝ }
+    ensures number { λ r. ⌜ r ≡ withLengths (c .refusal) (unfit items bidders (now (rounds .entry)) (now (prices .entry)) (now (options .entry)) (now (gains .entry))) ⌝ }
     ensures rounds { λ r. ⌜ now (rounds .exit) ≡ byNumber r (c .raised ∷ c .lowered ∷ []) (now (rounds .entry)) ⌝ }
     ensures prices { λ r. ⌜ now (prices .exit) ≡ byNumber r (places items (c .prices)) (now (prices .entry)) ⌝ }
     ensures options { λ r. ⌜ now (options .exit) ≡ byNumber r (places bidders (c .assignment)) (now (options .entry)) ⌝ }
+    ensures gains { λ r. ⌜ now (gains .exit) ≡ byNumber r (places bidders (c .gains)) (now (gains .entry)) ⌝ }
 {
-    let why = with_lengths(c.refusal, unfit(items, bidders, rounds, prices, options));
+    let why = with_lengths(
+        c.refusal,
+        unfit(items, bidders, rounds, prices, options, gains),
+    );
     if why != 0 {
         return why;
     }
-    put_closing(c, rounds, prices, options);
+    put_closing(c, rounds, prices, options, gains);
     0
 }
 
 // The sealed auction: starting prices, one for each item, and bids, bidder after bidder. Answers 0 and leaves rounds raised and lowered, the
-// closing prices and each bidder's item, or 0 for null, in the lent lists; or answers the number that turns the call down, and leaves them as
-// they came.
+// closing prices, each bidder's item, or 0 for null, and each bidder's gain in the lent lists; or answers the number that turns the call down, and
+// leaves them as they came.
 #[no_mangle]
 pub extern "C" fn dewgneiss_sealed(
     items: u32,
@@ -126,18 +150,20 @@ pub extern "C" fn dewgneiss_sealed(
     rounds: &mut [u32],
     prices: &mut [u16],
     options: &mut [u8],
+    gains: &mut [u16],
 ) -> u8
-    ensures number { λ r. ⌜ r ≡ lentRefusal items bidders (now (start .entry)) (now (bids .entry)) (now (rounds .entry)) (now (prices .entry)) (now (options .entry)) ⌝ }
+    ensures number { λ r. ⌜ r ≡ lentRefusal items bidders (now (start .entry)) (now (bids .entry)) (now (rounds .entry)) (now (prices .entry)) (now (options .entry)) (now (gains .entry)) ⌝ }
     ensures rounds { λ r. ⌜ now (rounds .exit) ≡ byNumber r
         (sealedOf items bidders (now (start .entry)) (now (bids .entry)) .raised ∷ sealedOf items bidders (now (start .entry)) (now (bids .entry)) .lowered ∷ [])
         (now (rounds .entry)) ⌝ }
     ensures prices { λ r. ⌜ now (prices .exit) ≡ byNumber r (places items (sealedOf items bidders (now (start .entry)) (now (bids .entry)) .prices)) (now (prices .entry)) ⌝ }
     ensures options { λ r. ⌜ now (options .exit) ≡ byNumber r (places bidders (sealedOf items bidders (now (start .entry)) (now (bids .entry)) .assignment)) (now (options .entry)) ⌝ }
+    ensures gains { λ r. ⌜ now (gains .exit) ≡ byNumber r (places bidders (sealedOf items bidders (now (start .entry)) (now (bids .entry)) .gains)) (now (gains .entry)) ⌝ }
 {
     let m = items as usize;
     let n = bidders as usize;
     let c = auction::sealed(m, n, start, bids);
-    lend(c, m, n, rounds, prices, options)
+    lend(c, m, n, rounds, prices, options, gains)
 }
 
 // The sealed auction with floors, one for each item. Answers and leaves as above.
@@ -151,18 +177,20 @@ pub extern "C" fn dewgneiss_sealed_above(
     rounds: &mut [u32],
     prices: &mut [u16],
     options: &mut [u8],
+    gains: &mut [u16],
 ) -> u8
-    ensures number { λ r. ⌜ r ≡ lentAboveRefusal items bidders (now (start .entry)) (now (floors .entry)) (now (bids .entry)) (now (rounds .entry)) (now (prices .entry)) (now (options .entry)) ⌝ }
+    ensures number { λ r. ⌜ r ≡ lentAboveRefusal items bidders (now (start .entry)) (now (floors .entry)) (now (bids .entry)) (now (rounds .entry)) (now (prices .entry)) (now (options .entry)) (now (gains .entry)) ⌝ }
     ensures rounds { λ r. ⌜ now (rounds .exit) ≡ byNumber r
         (sealedAboveOf items bidders (now (start .entry)) (now (floors .entry)) (now (bids .entry)) .raised ∷ sealedAboveOf items bidders (now (start .entry)) (now (floors .entry)) (now (bids .entry)) .lowered ∷ [])
         (now (rounds .entry)) ⌝ }
     ensures prices { λ r. ⌜ now (prices .exit) ≡ byNumber r (places items (sealedAboveOf items bidders (now (start .entry)) (now (floors .entry)) (now (bids .entry)) .prices)) (now (prices .entry)) ⌝ }
     ensures options { λ r. ⌜ now (options .exit) ≡ byNumber r (places bidders (sealedAboveOf items bidders (now (start .entry)) (now (floors .entry)) (now (bids .entry)) .assignment)) (now (options .entry)) ⌝ }
+    ensures gains { λ r. ⌜ now (gains .exit) ≡ byNumber r (places bidders (sealedAboveOf items bidders (now (start .entry)) (now (floors .entry)) (now (bids .entry)) .gains)) (now (gains .entry)) ⌝ }
 {
     let m = items as usize;
     let n = bidders as usize;
     let c = auction::sealed_above(m, n, start, floors, bids);
-    lend(c, m, n, rounds, prices, options)
+    lend(c, m, n, rounds, prices, options, gains)
 }
 
 // The same falling first.
@@ -176,18 +204,20 @@ pub extern "C" fn dewgneiss_falling_first(
     rounds: &mut [u32],
     prices: &mut [u16],
     options: &mut [u8],
+    gains: &mut [u16],
 ) -> u8
-    ensures number { λ r. ⌜ r ≡ lentAboveRefusal items bidders (now (start .entry)) (now (floors .entry)) (now (bids .entry)) (now (rounds .entry)) (now (prices .entry)) (now (options .entry)) ⌝ }
+    ensures number { λ r. ⌜ r ≡ lentAboveRefusal items bidders (now (start .entry)) (now (floors .entry)) (now (bids .entry)) (now (rounds .entry)) (now (prices .entry)) (now (options .entry)) (now (gains .entry)) ⌝ }
     ensures rounds { λ r. ⌜ now (rounds .exit) ≡ byNumber r
         (fallingFirstOf items bidders (now (start .entry)) (now (floors .entry)) (now (bids .entry)) .raised ∷ fallingFirstOf items bidders (now (start .entry)) (now (floors .entry)) (now (bids .entry)) .lowered ∷ [])
         (now (rounds .entry)) ⌝ }
     ensures prices { λ r. ⌜ now (prices .exit) ≡ byNumber r (places items (fallingFirstOf items bidders (now (start .entry)) (now (floors .entry)) (now (bids .entry)) .prices)) (now (prices .entry)) ⌝ }
     ensures options { λ r. ⌜ now (options .exit) ≡ byNumber r (places bidders (fallingFirstOf items bidders (now (start .entry)) (now (floors .entry)) (now (bids .entry)) .assignment)) (now (options .entry)) ⌝ }
+    ensures gains { λ r. ⌜ now (gains .exit) ≡ byNumber r (places bidders (fallingFirstOf items bidders (now (start .entry)) (now (floors .entry)) (now (bids .entry)) .gains)) (now (gains .entry)) ⌝ }
 {
     let m = items as usize;
     let n = bidders as usize;
     let c = auction::falling_first(m, n, start, floors, bids);
-    lend(c, m, n, rounds, prices, options)
+    lend(c, m, n, rounds, prices, options, gains)
 }
 
 // Closes a bid sheet: writes the closing sheet to the front of `out` and answers 0, or answers the number that turns the sheet down and leaves

@@ -11,8 +11,8 @@ sealed-requires c κs = search needs
 
 lend-requires : tie.Need-lend-requires
 lend-requires c κs z =
-    let a = c .before .before .before .before .before .before .before .before .before .args in
-    counts-sealed (a .items) (a .bidders) (a .start .now) (a .bids .now) (sym (ap (λ (r : Closing). r .refusal) (c .before .before .before .sealed .ensures .0)) ∙ z)
+    let a = c .before .before .before .before .before .before .before .before .before .before .before .args in
+    counts-sealed (a .items) (a .bidders) (a .start .now) (a .bids .now) (sym (ap (λ (r : Closing). r .refusal) (c .before .before .before .before .sealed .ensures .0)) ∙ z)
 
 same-length : tie.Need-same-length
 same-length c = search needs
@@ -23,13 +23,16 @@ same-length-2 c = search needs
 same-length-3 : tie.Need-same-length-3
 same-length-3 c = search needs
 
+same-length-4 : tie.Need-same-length-4
+same-length-4 c = search needs
+
 returns : tie.Need-returns
 returns c =
-    let a = c .before .before .before .before .before .before .before .before .before .before .before .before .before .before .before .before .args in
-    let e = c .before .before .before .before .before .before .before .before .before .before .sealed .ensures .0 in
-    lent (a .items) (a .bidders) (a .rounds .now) (a .prices .now) (a .options .now) e
-    (lent-sealed (a .items) (a .bidders) (a .start .now) (a .bids .now) (a .rounds .now) (a .prices .now) (a .options .now))
-    (c .before .before .before .before .before .before .lend .ensures)
+    let a = c .before .before .before .before .before .before .before .before .before .before .before .before .before .before .before .before .before .before .before .before .args in
+    let e = c .before .before .before .before .before .before .before .before .before .before .before .before .before .sealed .ensures .0 in
+    lent (a .items) (a .bidders) (a .rounds .now) (a .prices .now) (a .options .now) (a .gains .now) e
+    (lent-sealed (a .items) (a .bidders) (a .start .now) (a .bids .now) (a .rounds .now) (a .prices .now) (a .options .now) (a .gains .now))
+    (c .before .before .before .before .before .before .before .before .lend .ensures)
 
 pub dewgneiss-sealed-spec : {M : Type 1} → statement M
-dewgneiss-sealed-spec = tie.close (tie.spec sealed-requires lend-requires same-length same-length-2 same-length-3 returns)
+dewgneiss-sealed-spec = tie.close (tie.spec sealed-requires lend-requires same-length same-length-2 same-length-3 same-length-4 returns)

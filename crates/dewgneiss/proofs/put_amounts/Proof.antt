@@ -1,15 +1,15 @@
--- `dewgneiss::put_prices` meets its contract. Assumes nothing.
+-- `dewgneiss::put_amounts` meets its contract. Assumes nothing.
 use Prim.Native.Nat.{_-_}
 use borrow.Author.Needs.{needs}
 use Rattle.dewgneiss.proofs.Copying.{Copied, copied-none, copied-more, copied-all}
-use Rattle.dewgneiss.proofs.put_prices.Statement.{statement}
-use Rattle.dewgneiss.proofs.put_prices.Tie as tie
+use Rattle.dewgneiss.proofs.put_amounts.Statement.{statement}
+use Rattle.dewgneiss.proofs.put_amounts.Tie as tie
 
 abbrev Inv-loop : tie.InvT-loop
-Inv-loop out₀ prices n i₀ out i = Copied out₀ prices i out
+Inv-loop out₀ amounts n i₀ out i = Copied out₀ amounts i out
 
 abbrev μ-loop : tie.MeasureT-loop
-μ-loop out₀ prices n i₀ out i = n - i
+μ-loop out₀ amounts n i₀ out i = n - i
 
 loop-holds : tie.Need-loop-holds Inv-loop μ-loop
 loop-holds c = copied-none _ _
@@ -17,8 +17,8 @@ loop-holds c = copied-none _ _
 mul-out : tie.Need-mul-out Inv-loop μ-loop
 mul-out c = search needs
 
-element-copy-out-out : tie.Need-element-copy-out-out Inv-loop μ-loop
-element-copy-out-out c = search needs
+shared-slice-read-out : tie.Need-shared-slice-read-out Inv-loop μ-loop
+shared-slice-read-out c = search needs
 
 mul-out-2 : tie.Need-mul-out-2 Inv-loop μ-loop
 mul-out-2 c = search needs
@@ -44,17 +44,17 @@ returns : tie.Need-returns Inv-loop μ-loop
 returns c =
     let a = c .before .before .args in
     let at = c .before .loop in
-    copied-all (a .out .now) (a .prices .now) (at .i) (at .out) (at .inv) (c .loop-test .left)
+    copied-all (a .out .now) (a .amounts .now) (at .i) (at .out) (at .inv) (c .loop-test .left)
 
-pub put-prices-spec : {M : Type 1} → statement M
-put-prices-spec =
+pub put-amounts-spec : {M : Type 1} → statement M
+put-amounts-spec =
     tie.close
     (tie.spec
     Inv-loop
     μ-loop
     loop-holds
     mul-out
-    element-copy-out-out
+    shared-slice-read-out
     mul-out-2
     slice-write-out
     add-i
