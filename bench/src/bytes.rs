@@ -21,8 +21,9 @@ extern "C" {
     ) -> bool;
 }
 
-/// The bytes of the longest closing sheet.
-pub const LONGEST: usize = dewgneiss::LONGEST_CLOSING;
+/// The bytes of the longest closing sheet, and of the longest that a live read gives.
+const LONGEST: usize = dewgneiss::LONGEST_CLOSING;
+pub const LONGEST_LIVE: usize = sheet::live_length(32, 64);
 
 /// The value of each digit; any other byte is at least 16.
 const VALUES: [u8; 256] = {
@@ -82,9 +83,9 @@ fn close(bytes: &[u8], out: &mut [u8; LONGEST]) -> u8 {
     if bids.iter().any(|&x| x > TOP) {
         return 5;
     }
-    let mut closing = Closing { rounds: [0; 2], prices: vec![0; items], names: vec![0; bidders] };
+    let mut closing = Closing::new(items, bidders);
     search::sealed(items, bidders, start, &[0; 32][..items], bids, &mut closing);
-    write_closing(out, closing.rounds, &closing.prices, &closing.names);
+    write_sealed(out, &closing);
     0
 }
 
@@ -95,7 +96,21 @@ pub fn put(out: &mut [u8], digits: usize, x: u32) {
     }
 }
 
-/// The three lines at the front of `out`, where there is room for them.
+/// Four digits for each amount.
+fn put_amounts(out: &mut [u8], amounts: &[u16]) {
+    out.chunks_exact_mut(4).zip(amounts).for_each(|(to, &x)| put(to, 4, x.into()));
+}
+
+/// The four lines of a sealed auction at the front of `out`.
+fn write_sealed(out: &mut [u8; LONGEST], c: &Closing) {
+    write_closing(out, c.rounds, &c.prices, &c.names);
+    let fourth = sheet::live_length(c.prices.len(), c.names.len());
+    let last = fourth + 4 * c.gains.len();
+    put_amounts(&mut out[fourth..last], &c.gains);
+    out[last] = b'\n';
+}
+
+/// The three lines of a live read at the front of `out`, where there is room for them.
 #[inline(never)]
 pub fn write_closing(out: &mut [u8], rounds: [u32; 2], prices: &[u16], names: &[u8]) -> bool {
     let (second, third) = (13, 14 + 4 * prices.len());
@@ -104,39 +119,41 @@ pub fn write_closing(out: &mut [u8], rounds: [u32; 2], prices: &[u16], names: &[
         return false;
     }
     out[..12].chunks_exact_mut(6).zip(rounds).for_each(|(to, x)| put(to, 6, x));
-    out[second..third - 1].chunks_exact_mut(4).zip(prices).for_each(|(to, &x)| put(to, 4, x.into()));
+    put_amounts(&mut out[second..third - 1], prices);
     out[third..last].chunks_exact_mut(2).zip(names).for_each(|(to, &x)| put(to, 2, x.into()));
     [second - 1, third - 1, last].iter().for_each(|&k| out[k] = b'\n');
     true
 }
 
-/// What a closing sheet says, in as many places as there can be.
+/// What a closing sheet says, in as many places as there can be. Its first three lines are written alone, too.
 struct Said {
     rounds: [u32; 2],
     prices: [u16; 32],
     names: [u8; 64],
+    gains: Vec<u16>,
 }
 
 impl Said {
     fn of(s: &Sheet) -> Said {
         let c = dewgneiss::sealed(s.items as u32, s.bidders as u32, &s.start, &s.bids).expect("the sheet is within the limits");
         let prices = c.prices.try_into().expect("32 items");
-        Said { rounds: [c.raised, c.lowered], prices, names: c.names.try_into().expect("64 bidders") }
+        Said { rounds: [c.raised, c.lowered], prices, names: c.names.try_into().expect("64 bidders"), gains: c.gains }
     }
 
-    fn proved(&self, out: &mut [u8; LONGEST]) -> bool {
+    fn proved(&self, out: &mut [u8; LONGEST_LIVE]) -> bool {
         let [raised, lowered] = self.rounds;
         // SAFETY: the address and the length are those of one array, lent to this call alone; the rest may be anything.
         unsafe { bench_write_closing(out.as_mut_ptr(), out.len(), 32, 64, raised, lowered, &self.prices, &self.names) }
     }
 
-    fn plain(&self, out: &mut [u8; LONGEST]) -> bool {
+    fn plain(&self, out: &mut [u8; LONGEST_LIVE]) -> bool {
         write_closing(out, self.rounds, &self.prices, &self.names)
     }
 
     fn second_program(&self) -> Vec<u8> {
         let [raised, lowered] = self.rounds;
-        sheet::write_closing(&model::Closing { raised, lowered, prices: self.prices.to_vec(), names: self.names.to_vec() })
+        let (prices, names, gains) = (self.prices.to_vec(), self.names.to_vec(), self.gains.clone());
+        sheet::write_closing(&model::Closing { raised, lowered, prices, names, gains })
     }
 }
 
@@ -156,11 +173,12 @@ pub fn table(turns: usize, reading: &mut f64) -> usize {
         let [mut a, mut b] = [[0; LONGEST]; 2];
         assert_eq!((proved(&bad[k], &mut a), close(&bad[k], &mut b)), (5, 5));
         assert_eq!(sheet::close(&bad[k], LONGEST), Err(5));
-        assert!(said[k].proved(&mut a) && said[k].plain(&mut b));
-        assert_eq!((a, said[k].second_program()), (b, b.to_vec()));
-        a.fill(0);
         assert_eq!((proved(&good[k], &mut a), close(&good[k], &mut b)), (0, 0));
-        assert_eq!((a, said[k].second_program()), (b, b.to_vec()));
+        let expected = said[k].second_program();
+        assert_eq!([&a[..], &b], [&expected[..]; 2]);
+        let [mut a, mut b] = [[0; LONGEST_LIVE]; 2];
+        assert!(said[k].proved(&mut a) && said[k].plain(&mut b));
+        assert_eq!([&a[..], &b], [&expected[..LONGEST_LIVE]; 2]);
     }
     if turns > 0 {
         println!("\n| sheets of 32 items and 64 bidders, as bytes | proved, ns | plain Rust, ns | ratio |");
@@ -181,6 +199,7 @@ pub fn table(turns: usize, reading: &mut f64) -> usize {
             }],
         );
         // A hundred calls for each reading of the clock.
+        let [mut a, mut b] = [[0; LONGEST_LIVE]; 2];
         let write = race(
             turns,
             said.len(),
@@ -192,7 +211,7 @@ pub fn table(turns: usize, reading: &mut f64) -> usize {
         *reading = read[0] / read[1];
         for (what, [proved, plain]) in [
             ("a bid sheet is read, and turned down for its last bid", read),
-            ("a closing sheet is written", write),
+            ("a closing sheet of three lines is written", write),
             ("a bid sheet is closed, random, from anywhere", whole),
         ] {
             println!("| {what} | {proved:.0} | {plain:.0} | {:.2} |", proved / plain);

@@ -1,6 +1,6 @@
 //! The live calls beside plain Rust, each on records of 32 items and 64 bidders that the path of a sheet comes by.
 
-use crate::bytes::LONGEST;
+use crate::bytes::LONGEST_LIVE;
 use crate::race;
 use crate::record::{Calls, Record};
 use crate::sheets::{anywhere_above, random, random_above};
@@ -133,12 +133,14 @@ fn sheet(number: u8, out: &[u8]) -> Answer {
 }
 
 fn answer(at: &mut impl Calls, call: Call) -> Answer {
-    let mut out = [0; LONGEST];
     match call {
         Call::Report { bidder, report } => done(at.report(bidder, report)),
         Call::End => at.end(),
         Call::Clear => done(at.clear()),
-        Call::Read { .. } => sheet(at.read(&mut out), &out),
+        Call::Read { room } => {
+            let mut out = vec![0; room];
+            sheet(at.read(&mut out), &out)
+        }
     }
 }
 
@@ -190,7 +192,7 @@ fn compare(at: &Lent, call: Call) {
 }
 
 /// Twenty calls for each reading of the clock, each on a copy.
-fn twenty(at: &impl Calls, call: Call, out: &mut [u8; LONGEST]) {
+fn twenty(at: &impl Calls, call: Call, out: &mut [u8; LONGEST_LIVE]) {
     let at = black_box(at);
     for _ in 0..20 {
         let mut at = at.clone();
@@ -207,7 +209,7 @@ fn twenty(at: &impl Calls, call: Call, out: &mut [u8; LONGEST]) {
 /// Nanoseconds for a call on each of the records, proved and plain. The copy that a call is made on is part of the time.
 fn times(turns: usize, records: &[(Lent, Call)]) -> [f64; 2] {
     let plain: Vec<Record> = records.iter().map(|(at, _)| Record::of(&at.record())).collect();
-    let (mut first, mut second) = ([0; LONGEST], [0; LONGEST]);
+    let (mut first, mut second) = ([0; LONGEST_LIVE], [0; LONGEST_LIVE]);
     race(
         turns,
         records.len(),
@@ -225,7 +227,7 @@ fn calls(paths: &[Path]) -> [(&'static str, Vec<(Lent, Call)>); 6] {
         ("end, prices go up", on(Call::End, |p| &p.rising)),
         ("end, prices go down", on(Call::End, |p| &p.falling)),
         ("end, the auction closes", on(Call::End, |p| &p.last)),
-        ("read", on(Call::Read { room: LONGEST }, |p| &p.closed)),
+        ("read", on(Call::Read { room: LONGEST_LIVE }, |p| &p.closed)),
     ]
 }
 
@@ -239,6 +241,11 @@ pub fn table(turns: usize) -> usize {
     for (_, records) in calls(&paths).iter().chain(&calls(&above)) {
         records.iter().for_each(|(at, call)| compare(at, *call));
         compared += records.len();
+    }
+    // A read takes as many bytes as its three lines have, and no fewer.
+    for path in paths.iter().chain(&above) {
+        compare(&path.closed, Call::Read { room: LONGEST_LIVE - 1 });
+        compared += 1;
     }
     if turns > 0 {
         println!("\n| live calls on a record of 32 items and 64 bidders | proved, ns | plain Rust, ns | ratio |");

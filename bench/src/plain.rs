@@ -88,8 +88,10 @@ pub struct Demands {
     pub nulls: u64,
 }
 
-pub fn demands(prices: &[u16; 32], bids: &[u16], items: usize) -> Demands {
+/// What everybody demands at these prices, and what it gains them.
+pub fn demands(prices: &[u16; 32], bids: &[u16], items: usize) -> (Demands, [u16; 64]) {
     let mut all = Demands { items: [0; 64], nulls: 0 };
+    let mut gains = [0; 64];
     for (b, line) in bids.chunks_exact(items).enumerate() {
         let surplus = |(&bid, &price): (&u16, &u16)| i32::from(bid) - i32::from(price);
         let highest = line.iter().zip(prices).map(surplus).max().unwrap_or(0).max(0);
@@ -97,8 +99,9 @@ pub fn demands(prices: &[u16; 32], bids: &[u16], items: usize) -> Demands {
             all.items[b] |= u32::from((*pair.0 > 0) & (surplus(pair) == highest)) << i;
         }
         all.nulls |= u64::from(highest == 0) << b;
+        gains[b] = highest as u16;
     }
-    all
+    (all, gains)
 }
 
 pub fn rising(d: &Demands) -> u32 {
@@ -159,6 +162,14 @@ pub struct Closing {
     pub rounds: [u32; 2],
     pub prices: Vec<u16>,
     pub names: Vec<u8>,
+    pub gains: Vec<u16>,
+}
+
+impl Closing {
+    /// Zeros, as many as the counts ask for.
+    pub fn new(items: usize, bidders: usize) -> Closing {
+        Closing { rounds: [0; 2], prices: vec![0; items], names: vec![0; bidders], gains: vec![0; bidders] }
+    }
 }
 
 /// A sheet while its rounds are played.
@@ -167,12 +178,14 @@ struct Letting<'a> {
     floors: [u16; 32],
     prices: [u16; 32],
     demands: Demands,
+    gains: [u16; 64],
 }
 
 impl Letting<'_> {
     fn new(sheet: &Sheet) -> Letting<'_> {
         let prices = places(&sheet.start);
-        Letting { sheet, floors: places(&sheet.floors), prices, demands: demands(&prices, &sheet.bids, sheet.items) }
+        let (demands, gains) = demands(&prices, &sheet.bids, sheet.items);
+        Letting { sheet, floors: places(&sheet.floors), prices, demands, gains }
     }
 
     /// The rising set goes up until it is empty; in how many rounds.
@@ -190,7 +203,7 @@ impl Letting<'_> {
         let mut set = moves(self);
         while set != 0 {
             (0..32).filter(|&i| set >> i & 1 == 1).for_each(|i| by_one(&mut self.prices[i]));
-            self.demands = demands(&self.prices, &self.sheet.bids, self.sheet.items);
+            (self.demands, self.gains) = demands(&self.prices, &self.sheet.bids, self.sheet.items);
             rounds += 1;
             set = moves(self);
         }
@@ -203,6 +216,7 @@ impl Letting<'_> {
         closing.prices.copy_from_slice(&self.prices[..items]);
         let names = assign(&self.demands, above_floors(&self.floors, &self.prices), bidders);
         closing.names.copy_from_slice(&names[..bidders]);
+        closing.gains.copy_from_slice(&self.gains[..bidders]);
     }
 }
 

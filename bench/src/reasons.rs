@@ -21,7 +21,7 @@ fn plain(s: &Sheet, out: &mut [u8]) -> usize {
     let (mut p, floors) = (places(&s.start), places(&s.floors));
     let mut falls = false;
     for (k, line) in out.chunks_exact_mut(31).enumerate() {
-        let d = demands(&p, &s.bids, s.items);
+        let (d, _) = demands(&p, &s.bids, s.items);
         let mut set = if falls { 0 } else { rising(&d) };
         if set == 0 {
             falls = true;

@@ -3,6 +3,7 @@
 use crate::plain::Closing;
 use crate::sheets::{anywhere_above, by, changed, changed_above, from_floors, longest, random, random_above, worst};
 use crate::{plain, race, search};
+use dewgneiss::{falling_first_into, sealed_above_into, sealed_into};
 use model::random::Random;
 use model::{Sheet, TOP};
 use std::hint::black_box;
@@ -19,18 +20,17 @@ enum Auction {
 }
 
 fn closing(s: &Sheet) -> Closing {
-    Closing { rounds: [0; 2], prices: vec![0; s.items], names: vec![0; s.bidders] }
+    Closing::new(s.items, s.bidders)
 }
 
 impl Auction {
-    fn proved(self, s: &Sheet, Closing { rounds, prices, names }: &mut Closing) {
+    fn proved(self, s: &Sheet, Closing { rounds, prices, names, gains }: &mut Closing) {
+        let Sheet { start, floors, bids, .. } = s;
         let (items, bidders) = (s.items as u32, s.bidders as u32);
         match self {
-            Auction::Sealed => dewgneiss::sealed_into(items, bidders, &s.start, &s.bids, rounds, prices, names),
-            Auction::Above => dewgneiss::sealed_above_into(items, bidders, &s.start, &s.floors, &s.bids, rounds, prices, names),
-            Auction::FallingFirst => {
-                dewgneiss::falling_first_into(items, bidders, &s.start, &s.floors, &s.bids, rounds, prices, names)
-            }
+            Auction::Sealed => sealed_into(items, bidders, start, bids, rounds, prices, names, gains),
+            Auction::Above => sealed_above_into(items, bidders, start, floors, bids, rounds, prices, names, gains),
+            Auction::FallingFirst => falling_first_into(items, bidders, start, floors, bids, rounds, prices, names, gains),
         }
         .expect("the sheet is within the limits");
     }

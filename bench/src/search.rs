@@ -268,9 +268,10 @@ const BITS: [u16; 32] = {
     bits
 };
 
-/// What everybody demands at these prices.
-fn demands(prices: &[i16; 64], table: &Table, bidders: usize) -> Demands {
+/// What everybody demands at these prices, and what it gains them.
+fn demands(prices: &[i16; 64], table: &Table, bidders: usize) -> (Demands, [u16; 64]) {
     let mut all = Demands { items: [0; 64], nulls: 0 };
+    let mut gains = [0; 64];
     let mut prices = *prices;
     prices[table.items..].fill(CLOSED);
     for (b, line) in table.lines().enumerate().take(bidders) {
@@ -282,8 +283,9 @@ fn demands(prices: &[i16; 64], table: &Table, bidders: usize) -> Demands {
         let half = |k: usize| set[k..k + 16].iter().fold(0, |s, bit| s | bit);
         all.items[b] = u32::from(half(16)) << 16 | u32::from(half(0));
         all.nulls |= u64::from(highest == 0) << b;
+        gains[b] = highest as u16;
     }
-    all
+    (all, gains)
 }
 
 /// The first assignment in order, from one complete assignment. Null is place 0, item i is place i.
@@ -400,12 +402,14 @@ fn most_over(a: &[i16; 64], b: &[i16; 64]) -> u32 {
     a.iter().zip(b).fold(0, |most, (x, y)| most.max(x - y)) as u32
 }
 
-/// Writes the closing prices, and the names at them.
+/// Writes the closing prices, and the names and gains at them.
 fn close_at(close: &[i16; 64], floors: &[u16], table: &Table, bidders: usize, closing: &mut Closing, turns: &mut u32) {
     let prices: [u16; 32] = std::array::from_fn(|i| close[i] as u16);
     closing.prices.copy_from_slice(&prices[..table.items]);
-    let names = first(&demands(close, table, bidders), above_floors(&places(floors), &prices), bidders, turns);
+    let (demands, gains) = demands(close, table, bidders);
+    let names = first(&demands, above_floors(&places(floors), &prices), bidders, turns);
     closing.names.copy_from_slice(&names[..bidders]);
+    closing.gains.copy_from_slice(&gains[..bidders]);
 }
 
 /// Either order, as both are called.

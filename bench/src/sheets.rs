@@ -43,7 +43,7 @@ pub fn longest() -> Sheet {
 
 /// How much the searches of a sheet have to do, by the plain Rust of the same search.
 fn work(s: &Sheet, search: Call) -> u32 {
-    let mut closing = Closing { rounds: [0; 2], prices: vec![0; s.items], names: vec![0; s.bidders] };
+    let mut closing = Closing::new(s.items, s.bidders);
     search(s.items, s.bidders, &s.start, &s.floors, &s.bids, &mut closing)
 }
 

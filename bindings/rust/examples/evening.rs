@@ -1,4 +1,4 @@
-//! Three rakers, two pans: lets them, and says who has what. `cargo run -p dewgneiss --example evening`
+//! Three rakers, two pans: lets them, and says who has what and what they gain. `cargo run -p dewgneiss --example evening`
 
 use dewgneiss::{sealed, Refusal};
 
@@ -10,7 +10,7 @@ fn main() -> Result<(), Refusal> {
     for (k, &item) in closing.names.iter().enumerate() {
         match item {
             0 => println!("raker {} has no pan", k + 1),
-            i => println!("raker {} has pan {i} at {}", k + 1, closing.prices[i as usize - 1]),
+            i => println!("raker {} has pan {i} at {}, and gains {}", k + 1, closing.prices[i as usize - 1], closing.gains[k]),
         }
     }
     // A mistake on a sheet comes back as a number and in words.

@@ -1,4 +1,4 @@
-//! The proved auction from Rust: all bids in, prices and names out.
+//! The proved auction from Rust: all bids in, prices, names and gains out.
 //!
 //! The work is done by proved code, linked as a static library; this crate only hands slices over and turns numbers into
 //! [`Refusal`]s. Any argument may be given: what the auction does not accept comes back as a refusal with the number and
@@ -10,9 +10,10 @@
 //! assert_eq!((closing.raised, closing.lowered), (2, 2));
 //! assert_eq!(closing.prices, [2, 6]);
 //! assert_eq!(closing.names, [0, 2, 1]); // bidder 1 has no item, bidder 2 has item 2, bidder 3 has item 1
+//! assert_eq!(closing.gains, [0, 1, 4]); // bidder 2 bids 7 and pays 6, bidder 3 bids 6 and pays 2
 //!
 //! let sheet = b"020300040004\n00020006\n00030007\n00060007\n";
-//! assert_eq!(dewgneiss::close_sheet(sheet).unwrap(), b"000002000002\n00020006\n000201\n");
+//! assert_eq!(dewgneiss::close_sheet(sheet).unwrap(), b"000002000002\n00020006\n000201\n000000010004\n");
 //!
 //! // Why its first round raised item 2: all three bidders want it, and nothing else.
 //! let reasons = dewgneiss::reasons(sheet).unwrap();
@@ -22,19 +23,21 @@
 //! let closing = dewgneiss::sealed_above(2, 1, &[0, 5], &[0, 5], &[3, 7]).unwrap();
 //! assert_eq!(closing.prices, [0, 5]); // nobody has item 2, which stands at its floor
 //! assert_eq!(closing.names, [1]);
+//! assert_eq!(closing.gains, [3]); // a bid of 3 at a price of 0
 //!
-//! // Example 6 falling first: 4 rounds lowered and then 2 raised, to the same prices and names.
+//! // Example 6 falling first: 4 rounds lowered and then 2 raised, to the same prices, names and gains.
 //! let closing = dewgneiss::falling_first(2, 3, &[4, 4], &[0, 0], &[2, 6, 3, 7, 6, 7]).unwrap();
 //! assert_eq!((closing.lowered, closing.raised), (4, 2));
 //! assert_eq!(dewgneiss::falling_turn(&[4, 4], &[0, 0], &[2, 6, 3, 7, 6, 7], &closing).unwrap(), [0, 4]);
-//! assert_eq!((closing.prices, closing.names), (vec![2, 6], vec![0, 2, 1]));
+//! assert_eq!((closing.prices, closing.names, closing.gains), (vec![2, 6], vec![0, 2, 1], vec![0, 1, 4]));
 //!
 //! let refusal = dewgneiss::sealed(2, 3, &[4, 4096], &[2, 6, 3, 7, 6, 7]).unwrap_err();
 //! assert_eq!(refusal.number(), 4);
 //! println!("{refusal}");
 //! ```
 //!
-//! Words: an item is a pan, a bidder a raker, a price a rent, a floor the lowest rent of a pan. Items and bidders are numbered from 1.
+//! Words: an item is a pan, a bidder a raker, a price a rent, a floor the lowest rent of a pan, a gain what a raker bids for a pan beyond its rent. Items and
+//! bidders are numbered from 1.
 
 mod accepted;
 pub mod csv;
@@ -63,7 +66,7 @@ pub const LONGEST_SHEET: usize = 8_389;
 /// The bytes of the longest bid sheet that has a line of floors, as the tools take it.
 pub const LONGEST_SHEET_ABOVE: usize = 8_519;
 /// The bytes of the longest closing sheet.
-pub const LONGEST_CLOSING: usize = 271;
+pub const LONGEST_CLOSING: usize = 528;
 /// The bytes of the longest sheet of reasons: 31 for each of 8,190 rounds.
 pub const LONGEST_REASONS: usize = 253_890;
 
@@ -78,6 +81,8 @@ pub struct Closing {
     pub prices: Vec<u16>,
     /// Each bidder's item, or 0 for none.
     pub names: Vec<u8>,
+    /// What each bidder gains: their bid for the item named less its price, or 0 for none. Nothing would give them more at these prices.
+    pub gains: Vec<u16>,
 }
 
 mod linked {
@@ -101,6 +106,8 @@ mod linked {
                     prices_len: usize,
                     names: *mut u8,
                     names_len: usize,
+                    gains: *mut u16,
+                    gains_len: usize,
                 ) -> u8;)*
             }
         };
@@ -126,7 +133,7 @@ pub(crate) use call;
 ///
 /// Refused with 1, 2, 3, 4 or 5, in this order.
 pub fn sealed(items: u32, bidders: u32, start: &[u16], bids: &[u16]) -> Result<Closing, Refusal> {
-    closing(items, bidders, |rounds, prices, names| sealed_into(items, bidders, start, bids, rounds, prices, names))
+    closing(items, bidders, |rounds, prices, names, gains| sealed_into(items, bidders, start, bids, rounds, prices, names, gains))
 }
 
 /// The sealed auction with floors, one for each item: no price falls below its floor, and an item that nobody has stands there. A bid below the floor is a bid like
@@ -134,16 +141,18 @@ pub fn sealed(items: u32, bidders: u32, start: &[u16], bids: &[u16]) -> Result<C
 ///
 /// Refused with 1, 2, 3, 4, 18 or 5, in this order; 18 for a floor above 4,095 or above its starting price.
 pub fn sealed_above(items: u32, bidders: u32, start: &[u16], floors: &[u16], bids: &[u16]) -> Result<Closing, Refusal> {
-    closing(items, bidders, |rounds, prices, names| sealed_above_into(items, bidders, start, floors, bids, rounds, prices, names))
+    closing(items, bidders, |rounds, prices, names, gains| {
+        sealed_above_into(items, bidders, start, floors, bids, rounds, prices, names, gains)
+    })
 }
 
-/// The same falling first: the falling set goes down until it is empty, and then the rising set goes up. It ends in the prices and names of [`sealed_above`]; the
-/// rounds are others.
+/// The same falling first: the falling set goes down until it is empty, and then the rising set goes up. It ends in the prices, names and gains of
+/// [`sealed_above`]; the rounds are others.
 ///
 /// Refused as [`sealed_above`] is.
 pub fn falling_first(items: u32, bidders: u32, start: &[u16], floors: &[u16], bids: &[u16]) -> Result<Closing, Refusal> {
-    closing(items, bidders, |rounds, prices, names| {
-        falling_first_into(items, bidders, start, floors, bids, rounds, prices, names)
+    closing(items, bidders, |rounds, prices, names, gains| {
+        falling_first_into(items, bidders, start, floors, bids, rounds, prices, names, gains)
     })
 }
 
@@ -151,14 +160,15 @@ pub fn falling_first(items: u32, bidders: u32, start: &[u16], floors: &[u16], bi
 fn closing(
     items: u32,
     bidders: u32,
-    write: impl FnOnce(&mut [u32], &mut [u16], &mut [u8]) -> Result<(), Refusal>,
+    write: impl FnOnce(&mut [u32], &mut [u16], &mut [u8], &mut [u16]) -> Result<(), Refusal>,
 ) -> Result<Closing, Refusal> {
     // Counts out of range are refused before any length is looked at, so the room for them does not matter.
     let mut rounds = [0; 2];
     let mut prices = vec![0; (items as usize).min(ITEMS)];
     let mut names = vec![0; (bidders as usize).min(BIDDERS)];
-    write(&mut rounds, &mut prices, &mut names)?;
-    Ok(Closing { raised: rounds[0], lowered: rounds[1], prices, names })
+    let mut gains = vec![0; names.len()];
+    write(&mut rounds, &mut prices, &mut names, &mut gains)?;
+    Ok(Closing { raised: rounds[0], lowered: rounds[1], prices, names, gains })
 }
 
 /// The sealed auctions into lent memory: they differ in what they read.
@@ -173,13 +183,14 @@ macro_rules! into_lent {
             rounds: &mut [u32],
             prices: &mut [u16],
             names: &mut [u8],
+            gains: &mut [u16],
         ) -> Result<(), Refusal> {
-            refusal::of(call!($function(items, bidders; $($read),*; rounds, prices, names)))
+            refusal::of(call!($function(items, bidders; $($read),*; rounds, prices, names, gains)))
         })*
     };
 }
 into_lent! {
-    /// [`sealed`] into lent memory: `rounds` has 2 places (raised, lowered), `prices` one for each item, `names` one for each bidder.
+    /// [`sealed`] into lent memory: `rounds` has 2 places (raised, lowered), `prices` one for each item, `names` and `gains` one for each bidder.
     ///
     /// Another length is refused with 3. After a refusal the lent memory is as it was.
     sealed_into(start, bids): dewgneiss_sealed;
@@ -189,20 +200,20 @@ into_lent! {
     falling_first_into(start, floors, bids): dewgneiss_falling_first;
 }
 
-/// The closing sheet of a bid sheet, both as bytes. Every floor is 0.
+/// The closing sheet of a bid sheet, both as bytes: a line each of rounds, prices, names and gains. Every floor is 0.
 ///
 /// Refused with 6 for the first four bytes, 1, 2, 6 for the rest, 4 or 5, in this order.
 pub fn close_sheet(bytes: &[u8]) -> Result<Vec<u8>, Refusal> {
     let mut out = [0; LONGEST_CLOSING];
     close_sheet_into(bytes, &mut out)?;
-    // The sheet is three lines; nothing was written past the third.
-    let end = out.iter().enumerate().filter(|(_, &b)| b == b'\n').nth(2).map_or(0, |(k, _)| k + 1);
+    // The sheet is four lines; nothing was written past the fourth.
+    let end = out.iter().enumerate().filter(|(_, &b)| b == b'\n').nth(3).map_or(0, |(k, _)| k + 1);
     Ok(out[..end].to_vec())
 }
 
 /// The same into lent bytes. Fewer than the sheet takes are refused with 3, tested after 6 and before 4.
 ///
-/// Bytes past the sheet stay as they were; after a refusal all do. The sheet takes 15 + 4 · items + 2 · bidders bytes.
+/// Bytes past the sheet stay as they were; after a refusal all do. The sheet takes 16 + 4 · items + 6 · bidders bytes.
 pub fn close_sheet_into(bytes: &[u8], out: &mut [u8]) -> Result<(), Refusal> {
     refusal::of(call!(dewgneiss_close_sheet(; bytes; out)))
 }

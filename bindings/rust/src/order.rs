@@ -2,7 +2,7 @@
 
 use crate::{falling_first, sealed_above, Closing, Kind, Refusal};
 
-/// Which way prices go first. Either way the auction ends in the same prices and names (proved); the rounds and the turn are others.
+/// Which way prices go first. Either way the auction ends in the same prices, names and gains (proved); the rounds and the turn are others.
 #[derive(Clone, Copy, Debug, PartialEq, Eq)]
 pub enum Order {
     /// The rising set goes up until it is empty, and then the falling set goes down: [`sealed_above`].

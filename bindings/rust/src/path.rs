@@ -156,7 +156,7 @@ mod tests {
     fn rounds_that_lead_elsewhere() {
         let round = |kind, items| Reason { kind, items, bidders: 1 };
         let [up, down] = [round(Kind::Raised, 0b10), round(Kind::Lowered, 0b01)];
-        let closing = Closing { raised: 1, lowered: 1, prices: vec![3, 5], names: vec![1] };
+        let closing = Closing { raised: 1, lowered: 1, prices: vec![3, 5], names: vec![1], gains: vec![0] };
         let held = |order, reasons: &[Reason]| leading(order, &[4, 4], reasons.to_vec(), &closing).map(|r| r.len());
         let [rising, falling] = [Order::RisingFirst, Order::FallingFirst];
         assert_eq!([held(rising, &[up, down]), held(falling, &[down, up])], [Ok(2); 2]);
@@ -167,7 +167,7 @@ mod tests {
         }
         assert_eq!(leading(rising, &[0, 4], vec![up, down], &closing), Err(Astray));
         // As many either way, and the same prices at the end; but the auction would turn twice.
-        let back = Closing { raised: 2, lowered: 1, prices: vec![4, 5], names: vec![1] };
+        let back = Closing { raised: 2, lowered: 1, prices: vec![4, 5], ..closing };
         let rounds = [up, down, round(Kind::Raised, 0b01)];
         for order in [rising, falling] {
             assert_eq!(leading(order, &[4, 4], rounds.to_vec(), &back), Err(Astray));

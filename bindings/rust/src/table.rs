@@ -52,11 +52,12 @@ fn written(sheet: &Accepted, turn: &[u16]) -> Result<String, std::fmt::Error> {
     }
     writeln!(out, "\nraker    pan    bid   rent   gain")?;
     for (b, line) in bids.chunks(items).enumerate() {
+        let gain = closing.gains[b];
         match closing.names[b] as usize {
-            0 => writeln!(out, "{:5}   none      -      -      0", b + 1)?,
+            0 => writeln!(out, "{:5}   none      -      -{gain:7}", b + 1)?,
             item => {
                 let (bid, price) = (line[item - 1], closing.prices[item - 1]);
-                writeln!(out, "{:5}{item:7}{bid:7}{price:7}{:7}", b + 1, i32::from(bid) - i32::from(price))?;
+                writeln!(out, "{:5}{item:7}{bid:7}{price:7}{gain:7}", b + 1)?;
             }
         }
     }

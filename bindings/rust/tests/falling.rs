@@ -1,15 +1,18 @@
 //! Falling first: the close, the turn and the rounds.
 
+mod random;
+
 use dewgneiss::csv::bid_sheet;
 use dewgneiss::{falling_first, falling_first_into, falling_reasons, falling_turn, reasons_above, sealed_above, turn_above};
 use dewgneiss::{path, table, Closing, Kind, NoTurn, Order, Reason};
+use random::Random;
 
 const START: [u16; 2] = [4, 4];
 const BIDS: [u16; 6] = [2, 6, 3, 7, 6, 7];
 
 /// Example 6's closing.
 fn closing() -> Closing {
-    Closing { raised: 2, lowered: 4, prices: vec![2, 6], names: vec![0, 2, 1] }
+    Closing { raised: 2, lowered: 4, prices: vec![2, 6], names: vec![0, 2, 1], gains: vec![0, 1, 4] }
 }
 
 #[test]
@@ -43,27 +46,29 @@ fn the_largest_sheets() {
 #[test]
 fn what_is_turned_down() {
     for (number, items, bidders, start, floors, bids, room) in [
-        (1, 0, 0, &[][..], &[][..], &[][..], [0, 0, 0]),
-        (1, 33, 65, &[4096], &[4097], &[4096], [1, 2, 2]),
-        (2, 1, 0, &[4096], &[4097], &[4096], [1, 2, 2]),
-        (2, 1, 65, &[4096], &[4097], &[4096], [1, 2, 2]),
-        (3, 1, 1, &[], &[4097], &[4096], [2, 1, 1]),
-        (3, 1, 1, &[4096], &[], &[4096], [2, 1, 1]),
-        (3, 1, 1, &[4096], &[4097, 0], &[4096], [2, 1, 1]),
-        (3, 1, 1, &[4096], &[4097], &[4096, 0], [2, 1, 1]),
-        (3, 1, 1, &[4096], &[4097], &[4096], [1, 1, 1]),
-        (3, 1, 1, &[4096], &[4097], &[4096], [2, 2, 1]),
-        (3, 1, 1, &[4096], &[4097], &[4096], [2, 1, 0]),
-        (4, 1, 1, &[4096], &[4097], &[4096], [2, 1, 1]),
-        (18, 1, 1, &[4095], &[4096], &[4096], [2, 1, 1]),
-        (18, 2, 1, &[5, 5], &[5, 6], &[0, 4096], [2, 2, 1]),
-        (5, 1, 1, &[4095], &[4095], &[4096], [2, 1, 1]),
+        (1, 0, 0, &[][..], &[][..], &[][..], [0, 0, 0, 0]),
+        (1, 33, 65, &[4096], &[4097], &[4096], [1, 2, 2, 2]),
+        (2, 1, 0, &[4096], &[4097], &[4096], [1, 2, 2, 2]),
+        (2, 1, 65, &[4096], &[4097], &[4096], [1, 2, 2, 2]),
+        (3, 1, 1, &[], &[4097], &[4096], [2, 1, 1, 1]),
+        (3, 1, 1, &[4096], &[], &[4096], [2, 1, 1, 1]),
+        (3, 1, 1, &[4096], &[4097, 0], &[4096], [2, 1, 1, 1]),
+        (3, 1, 1, &[4096], &[4097], &[4096, 0], [2, 1, 1, 1]),
+        (3, 1, 1, &[4096], &[4097], &[4096], [1, 1, 1, 1]),
+        (3, 1, 1, &[4096], &[4097], &[4096], [2, 2, 1, 1]),
+        (3, 1, 1, &[4096], &[4097], &[4096], [2, 1, 0, 1]),
+        (3, 1, 1, &[4096], &[4097], &[4096], [2, 1, 1, 0]),
+        (3, 1, 1, &[4096], &[4097], &[4096], [2, 1, 1, 2]),
+        (4, 1, 1, &[4096], &[4097], &[4096], [2, 1, 1, 1]),
+        (18, 1, 1, &[4095], &[4096], &[4096], [2, 1, 1, 1]),
+        (18, 2, 1, &[5, 5], &[5, 6], &[0, 4096], [2, 2, 1, 1]),
+        (5, 1, 1, &[4095], &[4095], &[4096], [2, 1, 1, 1]),
     ] {
-        let lent = (vec![7; room[0]], vec![7; room[1]], vec![7; room[2]]);
-        let (mut rounds, mut prices, mut names) = lent.clone();
-        let answer = falling_first_into(items, bidders, start, floors, bids, &mut rounds, &mut prices, &mut names);
+        let lent = (vec![7; room[0]], vec![7; room[1]], vec![7; room[2]], vec![7; room[3]]);
+        let (mut rounds, mut prices, mut names, mut gains) = lent.clone();
+        let answer = falling_first_into(items, bidders, start, floors, bids, &mut rounds, &mut prices, &mut names, &mut gains);
         assert_eq!(answer.map_err(|r| r.number()), Err(number), "{items} {bidders} {start:?} {floors:?} {bids:?} {room:?}");
-        assert_eq!((rounds, prices, names), lent);
+        assert_eq!((rounds, prices, names, gains), lent);
     }
 }
 
@@ -76,6 +81,7 @@ fn no_turn() {
         Closing { lowered: 3, ..closing() },
         Closing { prices: vec![2, 5], ..closing() },
         Closing { names: vec![0, 1, 2], ..closing() },
+        Closing { gains: vec![0, 0, 4], ..closing() },
     ] {
         assert_eq!(falling_turn(&START, &[0, 0], &BIDS, &other), Err(NoTurn::Mismatch), "{other:?}");
     }
@@ -91,7 +97,7 @@ fn no_turn() {
         let answer = falling_turn(start, floors, bids, &closing());
         assert!(matches!(answer, Err(NoTurn::Refused(refusal)) if refusal.number() == number), "{number}: {answer:?}");
     }
-    let nobody = Closing { raised: 0, lowered: 0, prices: vec![], names: vec![] };
+    let nobody = Closing { raised: 0, lowered: 0, prices: vec![], names: vec![], gains: vec![] };
     assert!(matches!(falling_turn(&[], &[], &[], &nobody), Err(NoTurn::Refused(refusal)) if refusal.number() == 1));
 }
 
@@ -137,20 +143,6 @@ fn by_the_letter(ways: [Kind; 2], start: &[u16], floors: &[u16], bids: &[u16]) -
     (rounds, ends)
 }
 
-/// Numbers from 0 to less than a limit, the same in every run.
-struct Random(u64);
-
-impl Random {
-    fn below(&mut self, limit: u16) -> u16 {
-        self.0 = self.0.wrapping_mul(6_364_136_223_846_793_005).wrapping_add(1_442_695_040_888_963_407);
-        ((self.0 >> 33) % u64::from(limit)) as u16
-    }
-
-    fn amounts(&mut self, count: usize, limit: u16) -> Vec<u16> {
-        (0..count).map(|_| self.below(limit)).collect()
-    }
-}
-
 /// Both orders play the rounds of the rule, turn where it turns, and close alike. Each is the shorter one on some sheets.
 #[test]
 fn the_rounds_are_those_of_the_rule() {
@@ -164,7 +156,8 @@ fn the_rounds_are_those_of_the_rule() {
         let bids = random.amounts((items * bidders).into(), high + 2);
         let (m, n) = (items.into(), bidders.into());
         let [rising, falling] = [sealed_above, falling_first].map(|close| close(m, n, &start, &floors, &bids).unwrap());
-        assert_eq!((&rising.prices, &rising.names), (&falling.prices, &falling.names), "{start:?} {floors:?} {bids:?}");
+        let Closing { raised, lowered, .. } = rising;
+        assert_eq!(Closing { raised, lowered, ..falling.clone() }, rising, "{start:?} {floors:?} {bids:?}");
         let found = [
             (reasons_above(m, n, &start, &floors, &bids), turn_above(&start, &floors, &bids, &rising)),
             (falling_reasons(m, n, &start, &floors, &bids), falling_turn(&start, &floors, &bids, &falling)),

@@ -24,7 +24,7 @@ const FLOORS: [u16; 3] = [3, 0, 8];
 const BIDS: [u16; 9] = [2, 6, 0, 3, 7, 7, 6, 7, 0];
 
 fn closing() -> Closing {
-    Closing { raised: 2, lowered: 2, prices: vec![3, 6, 8], names: vec![0, 2, 1] }
+    Closing { raised: 2, lowered: 2, prices: vec![3, 6, 8], names: vec![0, 2, 1], gains: vec![0, 1, 3] }
 }
 
 /// In both orders it closes alike; the turn and the rounds are others.

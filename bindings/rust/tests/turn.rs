@@ -12,7 +12,7 @@ fn closing() -> Closing {
 
 /// A closing with room for so many items and bidders.
 fn sized(items: usize, bidders: usize) -> Closing {
-    Closing { raised: 0, lowered: 0, prices: vec![0; items], names: vec![0; bidders] }
+    Closing { raised: 0, lowered: 0, prices: vec![0; items], names: vec![0; bidders], gains: vec![0; bidders] }
 }
 
 fn number(answer: Result<Vec<u16>, NoTurn>) -> u8 {
@@ -74,6 +74,7 @@ fn another_closing() {
         Closing { lowered: 1, ..closing() },
         Closing { prices: vec![2, 5], ..closing() },
         Closing { names: vec![0, 1, 2], ..closing() },
+        Closing { gains: vec![0, 1, 5], ..closing() },
     ] {
         assert_eq!(turn(&START, &BIDS, &other), Err(NoTurn::Mismatch), "{other:?}");
     }

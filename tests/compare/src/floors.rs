@@ -54,10 +54,9 @@ fn one(calls: &Calls, (shape, s): (Shape, Sheet), k: u64, tally: &mut Tally) {
         let given = (calls.reasons)(items, bidders, &s.start, &s.floors, &s.bids);
         given.is_ok_and(|given| given.iter().copied().eq(reasons::along(&s, &second.path).iter().map(plain_reason)))
     };
-    // In either order it closes at the same prices with the same names.
-    let alike = in_both_orders(&s)
-        .iter()
-        .all(|c| c.as_ref().is_ok_and(|c| (&c.prices, &c.names) == (&second.closing.prices, &second.closing.names)));
+    // In either order it closes at the same prices with the same names and gains.
+    let alike =
+        in_both_orders(&s).iter().all(|c| c.as_ref().is_ok_and(|c| c.without_rounds() == second.closing.without_rounds()));
     let same = closing.clone().map(plain).as_ref() == Ok(&second.closing) && turned.as_ref() == Ok(&second.turn) && moved;
     tally.expect(second.of_one_mind() && same && alike, || {
         let (order, expected) = (calls.order, second.text());

@@ -19,6 +19,15 @@ fn near(exact: usize, r: &mut Random) -> usize {
     }
 }
 
+/// A length that fits a count, or one near that of the sheet.
+fn length(count: usize, of_sheet: usize, r: &mut Random) -> usize {
+    if r.one_in(4) {
+        near(of_sheet, r)
+    } else {
+        count
+    }
+}
+
 fn filled<T: Copy>(count: usize, mut value: impl FnMut() -> T) -> Vec<T> {
     (0..count).map(|_| value()).collect()
 }
@@ -52,6 +61,7 @@ struct Lent {
     rounds: Vec<u32>,
     prices: Vec<u16>,
     names: Vec<u8>,
+    gains: Vec<u16>,
 }
 
 /// A call of an entry: counts, a sheet whose lists need not fit them, and what is lent.
@@ -107,17 +117,30 @@ fn made(entry: Entry, r: &mut Random) -> Call {
     if r.one_in(8) {
         s.bids.resize(near(s.bids.len(), r), 0);
     }
-    let rounds = filled(if r.one_in(4) { near(2, r) } else { 2 }, || r.draw() as u32);
-    let prices = filled(if r.one_in(4) { near(s.items, r) } else { items.min(40) as usize }, || r.draw() as u16);
-    let names = filled(if r.one_in(4) { near(s.bidders, r) } else { bidders.min(70) as usize }, || r.draw() as u8);
-    Call { entry, items, bidders, sheet: s, lent: Lent { rounds, prices, names } }
+    // Counts out of range are refused before any length is looked at, and need not be lent for.
+    let counts = (items.min(40) as usize, bidders.min(70) as usize);
+    let rounds = filled(length(2, 2, r), || r.draw() as u32);
+    let prices = filled(length(counts.0, s.items, r), || r.draw() as u16);
+    let names = filled(length(counts.1, s.bidders, r), || r.draw() as u8);
+    let gains = filled(length(counts.1, s.bidders, r), || r.draw() as u16);
+    Call { entry, items, bidders, sheet: s, lent: Lent { rounds, prices, names, gains } }
+}
+
+impl Lent {
+    fn lengths(&self) -> [usize; 4] {
+        [self.rounds.len(), self.prices.len(), self.names.len(), self.gains.len()]
+    }
 }
 
 impl Call {
+    /// The lengths that fit the counts.
+    fn exact(&self) -> [usize; 4] {
+        [2, self.items as usize, self.bidders as usize, self.bidders as usize]
+    }
+
     /// The number that the call is to give, or 0.
     fn number(&self) -> u8 {
-        let Call { items, bidders, ref sheet, ref lent, .. } = *self;
-        let fits = [lent.rounds.len(), lent.prices.len(), lent.names.len()] == [2, items as usize, bidders as usize];
+        let Call { items, bidders, ref sheet, .. } = *self;
         let refusal = if self.entry.has_floors() {
             sealed_refusal_above(items, bidders, &sheet.start, &sheet.floors, &sheet.bids)
         } else {
@@ -125,7 +148,7 @@ impl Call {
         };
         match refusal {
             Some(n @ 1..=3) => n,
-            _ if !fits => 3,
+            _ if self.lent.lengths() != self.exact() => 3,
             other => other.unwrap_or(0),
         }
     }
@@ -138,18 +161,18 @@ impl Call {
         let order = if self.entry == Entry::FallingFirst { FALLING_FIRST } else { RISING_FIRST };
         let sheet = Sheet { items: self.items as usize, bidders: self.bidders as usize, ..self.sheet.clone() };
         let c = flows::close_in(&sheet, order);
-        Lent { rounds: vec![c.raised, c.lowered], prices: c.prices, names: c.names }
+        Lent { rounds: vec![c.raised, c.lowered], prices: c.prices, names: c.names, gains: c.gains }
     }
 
     /// The number that it gives, and the lent memory after it.
     fn given(&self) -> (u8, Lent) {
         let Call { items, bidders, sheet: ref s, .. } = *self;
         let mut after = self.lent.clone();
-        let Lent { rounds, prices, names } = &mut after;
+        let Lent { rounds, prices, names, gains } = &mut after;
         let answer = match self.entry {
-            Entry::Sealed => sealed_into(items, bidders, &s.start, &s.bids, rounds, prices, names),
-            Entry::SealedAbove => sealed_above_into(items, bidders, &s.start, &s.floors, &s.bids, rounds, prices, names),
-            Entry::FallingFirst => falling_first_into(items, bidders, &s.start, &s.floors, &s.bids, rounds, prices, names),
+            Entry::Sealed => sealed_into(items, bidders, &s.start, &s.bids, rounds, prices, names, gains),
+            Entry::SealedAbove => sealed_above_into(items, bidders, &s.start, &s.floors, &s.bids, rounds, prices, names, gains),
+            Entry::FallingFirst => falling_first_into(items, bidders, &s.start, &s.floors, &s.bids, rounds, prices, names, gains),
         };
         (number(&answer), after)
     }
@@ -193,6 +216,7 @@ mod tests {
                 ("18 before 5", times(18, &bids_too_high)),
                 ("3 for floors alone", times(3, &lengths)),
                 ("3 for what is lent alone", times(3, &lent)),
+                ("3 for gains alone", times(3, &|c| lent(c) && c.lent.lengths()[..3] == c.exact()[..3])),
                 ("18 for a starting price alone", times(18, &|c| c.sheet.floors.iter().all(|&floor| floor <= TOP))),
                 ("both falls and rises", times(0, &|c| !c.after().rounds.contains(&0))),
             ] {

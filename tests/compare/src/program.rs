@@ -2,6 +2,7 @@
 
 use crate::sheets::text;
 use crate::Tally;
+use dewgneiss::LONGEST_CLOSING;
 use model::cases;
 use model::generate::{self, Damage, Shape, DAMAGES, SHAPES};
 use model::random::Random;
@@ -30,7 +31,7 @@ pub fn run(name: &str, input: &[u8]) -> std::io::Result<Vec<u8>> {
 const PROGRAMS: [(&str, fn(&[u8]) -> Vec<u8>); 2] = [("closing_sheet", closing), ("reason_sheet", reasons::answer)];
 
 fn closing(bytes: &[u8]) -> Vec<u8> {
-    sheet::close(bytes, 271).unwrap_or_else(|number| format!("{number:02}\n").into_bytes())
+    sheet::close(bytes, LONGEST_CLOSING).unwrap_or_else(|number| format!("{number:02}\n").into_bytes())
 }
 
 fn compare(what: &str, bytes: &[u8], tally: &mut Tally) {

@@ -2,7 +2,7 @@
 
 use crate::fixed::number;
 use crate::Tally;
-use dewgneiss::{close_sheet, close_sheet_into, falling_first, sealed, sealed_above, turn};
+use dewgneiss::{close_sheet, close_sheet_into, falling_first, sealed, sealed_above, turn, LONGEST_CLOSING};
 use model::generate::{self, Shape, DAMAGES, SHAPES};
 use model::random::Random;
 use model::{flows, literal, sheet, totals, Closing, Order, Round, Sheet, RISING_FIRST};
@@ -10,7 +10,7 @@ use std::thread;
 
 /// The wrapper's closing as the second program's.
 pub fn plain(c: dewgneiss::Closing) -> Closing {
-    Closing { raised: c.raised, lowered: c.lowered, prices: c.prices, names: c.names }
+    Closing { raised: c.raised, lowered: c.lowered, prices: c.prices, names: c.names, gains: c.gains }
 }
 
 /// The wrapper's closings of a sheet with its floors, rising first and falling first.
@@ -58,7 +58,8 @@ impl Second {
         let closing = flows::close_after(s, &path);
         let by_letter = shape != Shape::Small || literal::close_in(s, order) == closing;
         // A step that shares no factor with those by which shapes and floors are chosen, for a sample of all of them.
-        let by_totals = k % 97 != 1 || totals::turn_and_close(s, order) == (turn.clone(), closing.prices.clone());
+        let by_totals = k % 97 != 1
+            || totals::turn_and_close(s, order) == (turn.clone(), closing.prices.clone()) && totals::gains(s) == closing.gains;
         Second { path, turn, closing, by_letter, by_totals }
     }
 
@@ -114,8 +115,9 @@ fn one_damaged(k: u64, r: &mut Random, tally: &mut Tally) {
     let s = generate::sheet(shape, r);
     let damage = DAMAGES[k as usize % DAMAGES.len()];
     let bytes = if r.one_in(4) { sheet::write(&s) } else { generate::damaged(&s, damage, r) };
-    let needed = sheet::closing_length(s.items, s.bidders);
-    let room = *r.pick(&[0, needed - 1, needed, needed + 1, 271, 300]);
+    // The length of a live read's three lines is no room for four.
+    let (short, needed) = (sheet::live_length(s.items, s.bidders), sheet::closing_length(s.items, s.bidders));
+    let room = *r.pick(&[0, short - 1, short, short + 1, needed - 1, needed, needed + 1, LONGEST_CLOSING, 600]);
     let lent: Vec<u8> = (0..room).map(|_| r.draw() as u8).collect();
     let expected = sheet::close(&bytes, room);
     let mut out = lent.clone();
@@ -131,7 +133,7 @@ pub fn text(bytes: &[u8]) -> String {
     String::from_utf8_lossy(&bytes[..bytes.len().min(400)]).into_owned()
 }
 
-/// Damaged sheets, and good ones between them, with rooms of every size.
+/// Damaged sheets, and good ones between them, with rooms that are too small, just enough and larger.
 pub fn damaged(count: u64, seed: u64) -> Tally {
     on_all_processors(count, seed.wrapping_add(1), one_damaged)
 }

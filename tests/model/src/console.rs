@@ -5,7 +5,7 @@
 //! than the program takes. A line that is answered with a number other than 00 changes nothing, an opening included.
 
 use crate::live::{Answer, Call, Record, Report};
-use crate::sheet::{number, numbers};
+use crate::sheet::{digits, number, numbers};
 use crate::Kind;
 
 /// The longest line that the program looks at.
@@ -14,10 +14,6 @@ pub const LONGEST: usize = 4_096;
 /// The program, with its record.
 pub struct Console {
     pub record: Record,
-}
-
-fn digits(prices: &[u16]) -> String {
-    prices.iter().map(|p| format!("{p:04x}")).collect()
 }
 
 impl Console {

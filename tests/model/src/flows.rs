@@ -1,7 +1,7 @@
 //! The rule for sheets of any size: a maximum matching in phases of shortest paths, the sets by its alternating closure, and
 //! the first assignment by flows with lower bounds. Item sets are u32, bit i − 1 for item i.
 
-use crate::{Closing, Kind, Order, Round, Sheet, RISING_FIRST};
+use crate::{literal, Closing, Kind, Order, Round, Sheet, RISING_FIRST};
 use std::collections::VecDeque;
 
 /// What a bidder demands: the items of the highest surplus that are bid for, and null if that surplus is 0.
@@ -303,7 +303,8 @@ pub fn close_after(sheet: &Sheet, path: &[Round]) -> Closing {
     let must = above(&sheet.floors, &prices);
     let names = first_assignment(&demands(sheet, &prices), must).expect("some assignment fits at the close");
     let raised = path.iter().filter(|r| r.kind == Kind::Raised).count();
-    Closing { raised: raised as u32, lowered: (path.len() - raised) as u32, prices, names }
+    let gains = literal::gains(sheet, &prices, &names);
+    Closing { raised: raised as u32, lowered: (path.len() - raised) as u32, prices, names, gains }
 }
 
 /// The prices at the turn of the sheet's rounds, rising first.

@@ -294,6 +294,7 @@ fn any_bidder(bidders: u32, r: &mut Random) -> u32 {
 pub fn calls(sheet: &Sheet, reporting: Reporting, most: usize, r: &mut Random) -> Vec<Call> {
     let (items, bidders) = (sheet.items as u32, sheet.bidders as u32);
     let mut record = Record::open_above(items, bidders, &sheet.start, &sheet.floors).expect("the sheet is within the limits");
+    let needed = sheet::live_length(sheet.items, sheet.bidders);
     let mut calls = Vec::new();
     // Whether a report that is not the sheet's stands in this round.
     let mut wrong = false;
@@ -301,7 +302,7 @@ pub fn calls(sheet: &Sheet, reporting: Reporting, most: usize, r: &mut Random) -
     while calls.len() < most {
         let missing: Vec<u32> = (1..=bidders).filter(|&k| !record.has_reported(k)).collect();
         let call = if record.phase == Phase::Closed && r.one_in(4) {
-            Call::Read { room: *r.pick(&[0, 20, 271, 300]) }
+            Call::Read { room: *r.pick(&[0, needed - 1, needed, 271, 300]) }
         } else if record.phase == Phase::Closed && r.one_in(6) {
             break;
         } else if r.one_in(disturbed) {

@@ -12,7 +12,8 @@
 //!   that a live list is held to, [`console`] the lines of the console program.
 //! - [`cases`] is document 01's table; [`random`] and [`generate`] make what else the comparison runs on, from a seed.
 //!
-//! Words: item (pan), bidder (raker), price (rent), floor (lowest rent), surplus (gain), assignment (naming), null (no pan), refusal (turned down).
+//! Words: item (pan), bidder (raker), price (rent), floor (lowest rent), surplus (gain; at the close the gain is that of the item named), assignment (naming),
+//! null (no pan), refusal (turned down).
 
 pub mod cases;
 pub mod console;
@@ -90,13 +91,22 @@ pub struct Round {
     pub prices: Vec<u16>,
 }
 
-/// What a closing sheet says: rounds raised and lowered, the prices, and each bidder's item, 0 for none.
+/// What the closing sheet of a sealed auction says: rounds raised and lowered, the prices, each bidder's item, 0 for none, and each bidder's gain. A live
+/// auction knows no bids, and has no gains to read.
 #[derive(Clone, Debug, PartialEq, Eq)]
 pub struct Closing {
     pub raised: u32,
     pub lowered: u32,
     pub prices: Vec<u16>,
     pub names: Vec<u8>,
+    pub gains: Vec<u16>,
+}
+
+impl Closing {
+    /// All but the rounds: what any order and any starting prices close with.
+    pub fn without_rounds(&self) -> Closing {
+        Closing { raised: 0, lowered: 0, ..self.clone() }
+    }
 }
 
 /// Number 18: a floor above 4,095, or a starting price below its floor.

@@ -137,6 +137,12 @@ pub fn first_assignment(count: usize, demands: &[Options], must: Options) -> Opt
     complete(count, demands, must, &mut given).then_some(given)
 }
 
+/// Document 02's, #106: what each bidder gains by an assignment, the surplus of the item named. At the close nobody pays more than they bid.
+pub fn gains(sheet: &Sheet, prices: &[u16], names: &[u8]) -> Vec<u16> {
+    let gain = |(b, &option): (usize, &u8)| surplus(sheet.line(b), prices, option.into());
+    (1..).zip(names).map(gain).map(|gain| u16::try_from(gain).expect("a gain is never below 0")).collect()
+}
+
 /// The sealed auction of a sheet within the limits, rising first.
 pub fn close(sheet: &Sheet) -> Closing {
     close_in(sheet, RISING_FIRST)
@@ -150,5 +156,6 @@ pub fn close_in(sheet: &Sheet, order: Order) -> Closing {
     let must = above(&sheet.floors, &prices);
     let names = first_assignment(sheet.items, &demands, must).expect("some assignment fits at the close");
     let count = |kind| path.iter().filter(|r| r.kind == kind).count() as u32;
-    Closing { raised: count(Kind::Raised), lowered: count(Kind::Lowered), prices, names }
+    let gains = gains(sheet, &prices, &names);
+    Closing { raised: count(Kind::Raised), lowered: count(Kind::Lowered), prices, names, gains }
 }

@@ -1,8 +1,8 @@
 //! The live auction: the record, its calls, and when a record is well formed (number 11).
 
 use crate::flows::{self, Demand};
-use crate::sheet::{closing_length, write_closing};
-use crate::{below_floor, Closing, Kind, BIDDERS, ITEMS, TOP};
+use crate::sheet::{live_length, write_live};
+use crate::{below_floor, Kind, BIDDERS, ITEMS, TOP};
 
 /// A report: null yes or no, beside an item set. It is empty if it says no and the set is empty.
 pub type Report = Demand;
@@ -262,16 +262,11 @@ impl Record {
         if self.phase != Phase::Closed {
             return Answer::Refused(15);
         }
-        if room < closing_length(self.items as usize, self.bidders as usize) {
+        if room < live_length(self.items as usize, self.bidders as usize) {
             return Answer::Refused(3);
         }
-        let names = flows::first_assignment(self.reports(), self.above());
-        Answer::Sheet(write_closing(&Closing {
-            raised: self.raised,
-            lowered: self.lowered,
-            prices: self.prices().to_vec(),
-            names: names.expect("some assignment fits a close"),
-        }))
+        let names = flows::first_assignment(self.reports(), self.above()).expect("some assignment fits a close");
+        Answer::Sheet(write_live(self.raised, self.lowered, self.prices(), &names))
     }
 
     /// Answers a call, and leaves the next record here.

@@ -3,8 +3,8 @@
 
 use crate::flows::{self, Demand};
 use crate::live::{unfit, Answer, Call, Phase, Report};
-use crate::sheet::{closing_length, write_closing};
-use crate::{Closing, Kind, Round, Sheet, TOP};
+use crate::sheet::{live_length, write_live};
+use crate::{Kind, Round, Sheet, TOP};
 
 pub struct Machine {
     sheet: Sheet,
@@ -105,18 +105,13 @@ impl Machine {
         if !self.closed {
             return Answer::Refused(15);
         }
-        if room < closing_length(self.sheet.items, self.sheet.bidders) {
+        if room < live_length(self.sheet.items, self.sheet.bidders) {
             return Answer::Refused(3);
         }
         let must = flows::above(&self.sheet.floors, self.prices());
-        let names = flows::first_assignment(&self.demands(), must);
+        let names = flows::first_assignment(&self.demands(), must).expect("some assignment fits at the close");
         let (raised, lowered) = self.rounds();
-        Answer::Sheet(write_closing(&Closing {
-            raised,
-            lowered,
-            prices: self.prices().to_vec(),
-            names: names.expect("some assignment fits at the close"),
-        }))
+        Answer::Sheet(write_live(raised, lowered, self.prices(), &names))
     }
 
     /// The machine's answer; `None` where the call leaves the sheet.

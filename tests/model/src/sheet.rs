@@ -18,8 +18,13 @@ pub fn numbers(digits: &[u8], count: usize) -> Option<Vec<u16>> {
     digits.chunks(4).map(|d| number(d).map(|x| x as u16)).collect()
 }
 
-/// The length of the closing sheet.
-pub fn closing_length(items: usize, bidders: usize) -> usize {
+/// The length of a sealed auction's closing sheet.
+pub const fn closing_length(items: usize, bidders: usize) -> usize {
+    16 + 4 * items + 6 * bidders
+}
+
+/// The length of what a live read gives.
+pub const fn live_length(items: usize, bidders: usize) -> usize {
     15 + 4 * items + 2 * bidders
 }
 
@@ -43,21 +48,30 @@ pub fn read(bytes: &[u8]) -> Result<Sheet, u8> {
     Ok(Sheet::of(rows[0].clone(), bidders, rows[1..].concat()))
 }
 
+/// Four digits for each amount.
+pub fn digits(amounts: &[u16]) -> String {
+    amounts.iter().map(|x| format!("{x:04x}")).collect()
+}
+
 /// The bytes of a bid sheet, which say nothing of floors.
 pub fn write(sheet: &Sheet) -> Vec<u8> {
-    let line = |amounts: &[u16]| amounts.iter().map(|x| format!("{x:04x}")).collect::<String>();
-    let mut text = format!("{:02x}{:02x}{}\n", sheet.items, sheet.bidders, line(&sheet.start));
+    let mut text = format!("{:02x}{:02x}{}\n", sheet.items, sheet.bidders, digits(&sheet.start));
     for bids in sheet.bids.chunks(sheet.items) {
-        text += &format!("{}\n", line(bids));
+        text += &format!("{}\n", digits(bids));
     }
     text.into_bytes()
 }
 
-/// The three lines of a closing sheet.
+/// The three lines that a live read gives.
+pub fn write_live(raised: u32, lowered: u32, prices: &[u16], names: &[u8]) -> Vec<u8> {
+    let names: String = names.iter().map(|x| format!("{x:02x}")).collect();
+    format!("{raised:06x}{lowered:06x}\n{}\n{names}\n", digits(prices)).into_bytes()
+}
+
+/// The four lines of a sealed auction's closing sheet: those of a live read, and the gains.
 pub fn write_closing(c: &Closing) -> Vec<u8> {
-    let prices: String = c.prices.iter().map(|x| format!("{x:04x}")).collect();
-    let names: String = c.names.iter().map(|x| format!("{x:02x}")).collect();
-    format!("{:06x}{:06x}\n{prices}\n{names}\n", c.raised, c.lowered).into_bytes()
+    let gains = digits(&c.gains) + "\n";
+    [write_live(c.raised, c.lowered, &c.prices, &c.names), gains.into_bytes()].concat()
 }
 
 /// The closing sheet of a bid sheet, or its refusal, where `room` bytes are lent for it: 6, 1, 2, 6, 3, 4, 5.

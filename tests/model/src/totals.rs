@@ -1,7 +1,7 @@
 //! Turn and close without a round: both are least equilibrium prices, one from the starting prices and one from the floors, and how
 //! far such a price stands above them is what the best total of bids less them would gain from one more copy of the item (source
 //! document 000's prices are those of Vickrey). Falling first's turn is the close of other bids. Counts of rounds are then the largest
-//! rise and the largest fall. Best totals come from the Hungarian method with potentials.
+//! rise and the largest fall, and gains what the best total loses without the bidder. Best totals come from the Hungarian method with potentials.
 
 use crate::{Kind, Order, Sheet};
 
@@ -95,6 +95,14 @@ pub fn turn_and_close(sheet: &Sheet, order: Order) -> (Vec<u16>, Vec<u16>) {
 pub fn rounds(sheet: &Sheet, turn: &[u16], close: &[u16]) -> (u32, u32) {
     let rise = |from: &[u16], to: &[u16]| from.iter().zip(to).map(|(&a, &b)| b.saturating_sub(a).into()).max().unwrap_or(0);
     (rise(&sheet.start, turn).max(rise(turn, close)), rise(turn, &sheet.start).max(rise(close, turn)))
+}
+
+/// What each bidder gains at the least prices: what the best total of bids less floors loses without that bidder.
+pub fn gains(sheet: &Sheet) -> Vec<u16> {
+    let worth = bids_less(sheet, &sheet.floors);
+    let total = best_total(&worth);
+    let without = |b: usize| [&worth[..b], &worth[b + 1..]].concat();
+    (0..sheet.bidders).map(|b| (total - best_total(&without(b))) as u16).collect()
 }
 
 /// The total of an assignment: its bids less the floors.

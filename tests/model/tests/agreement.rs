@@ -36,7 +36,8 @@ fn agree(s: &Sheet, list: &[Call]) -> bool {
         assert!(holds(&record, &machine, s), "{call:?} on {s:?}");
         assert!(record.well_formed(), "{call:?} on {s:?}");
         if let Answer::Sheet(bytes) = expected {
-            assert_eq!(bytes, sheet::write_closing(&flows::close(s)));
+            let c = flows::close(s);
+            assert_eq!(bytes, sheet::write_live(c.raised, c.lowered, &c.prices, &c.names));
         }
     }
     true

@@ -40,14 +40,14 @@ fn k4_falls_from_the_start() {
 #[test]
 fn example_6_as_bytes() {
     let bids = b"020300040004\n00020006\n00030007\n00060007\n";
-    assert_eq!(sheet::close(bids, 29).unwrap(), b"000002000002\n00020006\n000201\n");
+    assert_eq!(sheet::close(bids, 42).unwrap(), b"000002000002\n00020006\n000201\n000000010004\n");
     assert_eq!(sheet::write(&table()[0].sheet), bids);
-    assert_eq!(sheet::close(bids, 28), Err(3));
+    assert_eq!(sheet::close(bids, 41), Err(3));
 }
 
 #[test]
 fn bytes_that_are_turned_down() {
-    let turned = |bytes: &[u8]| sheet::close(bytes, 271).err();
+    let turned = |bytes: &[u8]| sheet::close(bytes, 528).err();
     for (bytes, number) in [
         (&b""[..], 6),
         (b"00", 6),
@@ -67,7 +67,8 @@ fn bytes_that_are_turned_down() {
     ] {
         assert_eq!(turned(bytes), Some(number), "{:?}", String::from_utf8_lossy(bytes));
     }
-    assert_eq!(sheet::close(b"01011000\n0000\n", 20), Err(3));
+    assert_eq!(sheet::close(b"01011000\n0000\n", 25), Err(3));
+    assert_eq!(sheet::close(b"01011000\n0000\n", 26), Err(4));
 }
 
 /// Reports the same for both bidders of a letting of one item, and ends the round.
@@ -119,6 +120,6 @@ fn the_examples() {
     for case in table() {
         let bytes = |kind: &str| std::fs::read(folder.join(format!("{}.{kind}", case.name))).expect("an example");
         assert_eq!(sheet::read(&bytes("sheet")), Ok(case.sheet.clone()), "{}", case.name);
-        assert_eq!(sheet::close(&bytes("sheet"), 271), Ok(bytes("closing")), "{}", case.name);
+        assert_eq!(sheet::close(&bytes("sheet"), 528), Ok(bytes("closing")), "{}", case.name);
     }
 }

@@ -34,7 +34,7 @@ fn example_6() {
     assert_eq!(turn, [0, 4]);
     let closing = close_in(s, FALLING_FIRST);
     assert_eq!((closing.lowered, closing.raised), (4, 2));
-    assert_eq!((closing.prices, closing.names), (vec![2, 6], vec![0, 2, 1]));
+    assert_eq!((closing.prices, closing.names, closing.gains), (vec![2, 6], vec![0, 2, 1], vec![0, 1, 4]));
 }
 
 /// Of all prices at or below the starting prices the turn is the greatest that leave the falling set empty.
@@ -81,12 +81,12 @@ fn the_rounds() {
     assert!(both > 150 && longer > 50 && shorter > 50, "{both}, {longer}, {shorter}");
 }
 
-/// The prices and names of rising first; by the letter and by closure.
+/// The prices, names and gains of rising first; by the letter and by closure.
 #[test]
 fn the_same_close() {
     for s in sheets(403, 3_000) {
         let [first, closing] = [close(&s), close_in(&s, FALLING_FIRST)];
-        assert_eq!((first.prices, first.names), (closing.prices.clone(), closing.names.clone()), "{s:?}");
+        assert_eq!(first.without_rounds(), closing.without_rounds(), "{s:?}");
         assert_eq!(flows::path_in(&s, FALLING_FIRST), falls_first(&s).0, "{s:?}");
         assert_eq!(flows::close_in(&s, FALLING_FIRST), closing, "{s:?}");
     }
@@ -100,7 +100,7 @@ fn every_kind_from_above() {
         let shape = if k % 90 == 0 { Shape::Long } else { SHAPES[k % (SHAPES.len() - 1)] };
         let s = started_high(sheet_above(shape, &mut r), &mut r);
         let [first, closing] = ORDERS.map(|order| flows::close_in(&s, order));
-        assert_eq!((first.prices, first.names), (closing.prices.clone(), closing.names), "{s:?}");
+        assert_eq!(first.without_rounds(), closing.without_rounds(), "{s:?}");
         let (turn, close) = totals::turn_and_close(&s, FALLING_FIRST);
         assert_eq!(close, closing.prices, "{s:?}");
         assert_eq!(totals::rounds(&s, &turn, &close), (closing.raised, closing.lowered), "{s:?}");

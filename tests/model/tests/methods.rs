@@ -74,8 +74,10 @@ fn small_sheets_by_the_letter_and_by_closure() {
     }
 }
 
-/// In both orders turn and close without rounds; the counts as largest rise and fall; the total of bids less floors that nothing beats.
+/// In both orders turn and close without rounds; the counts as largest rise and fall; the total of bids less floors that nothing beats, and the gains as what it
+/// loses without a bidder.
 fn holds_totals(s: &Sheet) {
+    let gains = totals::gains(s);
     for order in ORDERS {
         let path = flows::path_in(s, order);
         let closing = flows::close_after(s, &path);
@@ -84,6 +86,7 @@ fn holds_totals(s: &Sheet) {
         assert_eq!(close, closing.prices, "{s:?}");
         assert_eq!(totals::rounds(s, &turn, &close), (closing.raised, closing.lowered), "{s:?}");
         assert_eq!(totals::total(s, &closing.names), totals::best(s), "{s:?}");
+        assert_eq!(gains, closing.gains, "{s:?}");
     }
 }
 
