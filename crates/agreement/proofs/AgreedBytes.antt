@@ -101,3 +101,12 @@ writes =
   where
     written : List ℕ → List ℕ → List ℕ
     written x y = writtenTo (replicate 27 7) (x ++ y)
+
+-- with one byte fewer it writes nothing
+pub writes-not : closedTo oneBytes (replicate 25 7) ≡ replicate 25 7
+unfolding computing
+writes-not =
+    let whole = closes-sheet oneBytes 26 no-number in
+    let three : sheetRefusal oneBytes 25 ≡ 3 =
+    whole .close-number (replicate 25 7) ∙ ap (λ (s : Sheet). first (on 3 (ltb 25 (sealedLength (s .items) (length (s .bids)))) ∷ [])) says in
+    whole .close-bytes (replicate 25 7) ∙ ap (λ (why : ℕ). byNumber why (writtenTo (replicate 25 7) (threeLines (sheetIn oneBytes) ++ gainsLine oneBytes)) (replicate 25 7)) three

@@ -63,10 +63,10 @@ module _ (s : Sheet) (lim : Limits s) (c : Closing s) (t : Machine) (g : Good s 
         ∙ ap (assignment m (aboveFloors m (s .floors) (at s t .prices))) (reports-is s t lim ∙ said-demands s t (g .at-close done .0))
         ∙ ap (λ (q : State). assignmentAt s (q .prices)) at-is
 
-    -- a closed record's sheet is the sealed closing sheet
-    sealed-is : sheetOf (standsFor s t) ≡ threeLines s
+    -- a closed record's sheet is the sheet's three lines
+    lines-are : sheetOf (standsFor s t) ≡ threeLines s
     unfolding sheetOf threeLines standsFor
-    sealed-is =
+    lines-are =
         ap (closingSheet m n (at s t .ups) (at s t .downs) (places 32 (at s t .prices))) names-are
         ∙ sheet-places m n (at s t .ups) (at s t .downs) (at s t .prices) (assignmentAt s (close s .prices)) (lim .max-items)
         ∙ ap (λ (q : State). closingSheet m n (q .ups) (q .downs) (q .prices) (assignmentAt s (close s .prices))) at-is
@@ -80,7 +80,7 @@ module _ (s : Sheet) (lim : Limits s) (c : Closing s) (t : Machine) (g : Good s 
     reads-lines : (out : List ℕ) → closingLength m n ≤ length out → readBytes (standsFor s t) out ≡ writtenTo out (threeLines s)
     unfolding readBytes
     reads-lines out l =
-        ap (λ (x : ℕ). elim x [ zero ↦ writtenTo out (sheetOf (standsFor s t)) | suc j ↦ out ]) (reads-on out l) ∙ ap (writtenTo out) sealed-is
+        ap (λ (x : ℕ). elim x [ zero ↦ writtenTo out (sheetOf (standsFor s t)) | suc j ↦ out ]) (reads-on out l) ∙ ap (writtenTo out) lines-are
 
     pub closed-as : ClosedAs s (standsFor s t)
     unfolding standsFor
@@ -104,7 +104,7 @@ module _ (s : Sheet) (lim : Limits s) (c : Closing s) (t : Machine) (g : Good s 
       → Follows s (record { answer = shown x (elim x [ zero ↦ writtenTo out (sheetOf (standsFor s t)) | suc j ↦ out ]); next = standsFor s t })
       (elim x [ zero ↦ answers (shown 0 (writtenTo out (threeLines s))) t | suc j ↦ answers (shown (suc j) out) t ])
   unfolding Follows
-  read-by out zero h = (ap (λ (y : List ℕ). shown 0 (writtenTo out y)) (sealed-is (h refl)), refl, g)
+  read-by out zero h = (ap (λ (y : List ℕ). shown 0 (writtenTo out y)) (lines-are (h refl)), refl, g)
   read-by out (suc j) h = (refl, refl, g)
 
   pub read-follows : (out : List ℕ) → Follows s (call (standsFor s t) (reading out)) (machine s t (reading out))

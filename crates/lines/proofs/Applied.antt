@@ -6,11 +6,11 @@ use mathlib.Core.Bool.{true, false}
 use mathlib.Core.List.{List, [], _∷_, _++_}
 use lib.ListN.{length, replicate}
 use Rattle.digits.specs.Digits.{digit, hex}
-use Rattle.lines.specs.Lines.{newline, joined, amountsLine, closingSheet, sealedSheet, closingLength, sealedLength, counted, bytesOf, writtenTo, writes, afterWriting}
+use Rattle.lines.specs.Lines.{newline, joined, amountsLine, closingSheet, sealedSheet, closingLength, sealedLength, fewEnough, bytesOf, writtenTo, writes, afterWriting}
 
 -- the definitions that the cases compute with
 computing : Unit {0}
-unfolding digit hex newline joined amountsLine closingSheet sealedSheet closingLength sealedLength counted bytesOf writtenTo writes afterWriting
+unfolding digit hex newline joined amountsLine closingSheet sealedSheet closingLength sealedLength fewEnough bytesOf writtenTo writes afterWriting
 computing = tt
 
 -- two rounds raised and two lowered, prices 2 and 6, options 0, 2 and 1: the lines 000002000002, 00020006 and 000201

@@ -10,45 +10,45 @@ use lib.Seq.{sets}
 use borrow.Author.Tests.{le-leb, lt-leb, leb-true}
 use Rattle.sets.proofs.Counting.{and-left, and-right, and-both}
 use Rattle.digits.specs.Digits.{hex}
-use Rattle.lines.specs.Lines.{newline, joined, amountsLine, closingSheet, sealedSheet, closingLength, sealedLength, counted, bytesOf, writtenTo, writes, afterWriting, hasRoom}
+use Rattle.lines.specs.Lines.{newline, joined, amountsLine, closingSheet, sealedSheet, closingLength, sealedLength, fewEnough, bytesOf, writtenTo, writes, afterWriting, hasRoom}
 use Rattle.lines.proofs.Stores.{sets-then, sets-front}
 use Rattle.lines.proofs.Lengths.{rounds-length, line-length, by-lines, closing-length, sealed-length}
 
 -- ---- the counts and the room
 
-pub record Counted (m n : ℕ) : Type 0 where
+pub record FewEnough (m n : ℕ) : Type 0 where
   pub max-items : m ≤ 32
   pub max-bidders : n ≤ 64
 
-pub is-counted : (m n : ℕ) → counted m n ≡ true → Counted m n
-unfolding counted
-is-counted m n e = record { max-items = leb-true m 32 (and-left (leb m 32) (leb n 64) e); max-bidders = leb-true n 64 (and-right (leb m 32) (leb n 64) e) }
+pub few-use : (m n : ℕ) → fewEnough m n ≡ true → FewEnough m n
+unfolding fewEnough
+few-use m n e = record { max-items = leb-true m 32 (and-left (leb m 32) (leb n 64) e); max-bidders = leb-true n 64 (and-right (leb m 32) (leb n 64) e) }
 
-pub counted-is : (m n : ℕ) → m ≤ 32 → n ≤ 64 → counted m n ≡ true
-unfolding counted
-counted-is m n l k = and-both (leb m 32) (leb n 64) (le-leb m 32 l) (le-leb n 64 k)
+pub few-make : (m n : ℕ) → m ≤ 32 → n ≤ 64 → fewEnough m n ≡ true
+unfolding fewEnough
+few-make m n l k = and-both (leb m 32) (leb n 64) (le-leb m 32 l) (le-leb n 64 k)
 
 -- by the code's tests
-pub many-items : (m n : ℕ) → 32 < m → counted m n ≡ false
-unfolding counted
+pub many-items : (m n : ℕ) → 32 < m → fewEnough m n ≡ false
+unfolding fewEnough
 many-items m n h = simp (lt-leb m 32 h)
 
-pub few-items : (m n : ℕ) → m ≤ 32 → counted m n ≡ leb n 64
-unfolding counted
+pub few-items : (m n : ℕ) → m ≤ 32 → fewEnough m n ≡ leb n 64
+unfolding fewEnough
 few-items m n l = simp (le-leb m 32 l)
 
-pub bytes-by : (m n long : ℕ) (t : Bool) → counted m n ≡ t → bytesOf m n long ≡ cond t long 0
+pub bytes-by : (m n long : ℕ) (t : Bool) → fewEnough m n ≡ t → bytesOf m n long ≡ cond t long 0
 unfolding bytesOf
 bytes-by m n long t e = ap (λ (x : Bool). cond x long 0) e
 
-pub writes-by : (m n long room : ℕ) (t : Bool) → counted m n ≡ t → writes m n long room ≡ t && leb long room
+pub writes-by : (m n long room : ℕ) (t : Bool) → fewEnough m n ≡ t → writes m n long room ≡ t && leb long room
 unfolding writes
 writes-by m n long room t e = ap (λ (x : Bool). x && leb long room) e
 
 -- other counts are not written, however long their sheet is said to be
 writes-bytes : (m n long room : ℕ) → writes m n (bytesOf m n long) room ≡ writes m n long room
 unfolding writes bytesOf
-writes-bytes m n long room = go (counted m n)
+writes-bytes m n long room = go (fewEnough m n)
   where
     go : (t : Bool) → t && leb (cond t long 0) room ≡ t && leb long room
     go true = refl
@@ -60,16 +60,16 @@ asked m n long room given t u e w is = sym (writes-bytes m n long room) ∙ ap (
 
 -- where it is written, the counts are such and there is room
 pub record Written (m n long room : ℕ) : Type 0 where
-  pub counts : Counted m n
+  pub counts : FewEnough m n
   pub fits : long ≤ room
 
 pub is-written : (m n long room : ℕ) → writes m n long room ≡ true → Written m n long room
 unfolding writes
 is-written m n long room e =
-    record { counts = is-counted m n (and-left (counted m n) (leb long room) e); fits = leb-true long room (and-right (counted m n) (leb long room) e) }
+    record { counts = few-use m n (and-left (fewEnough m n) (leb long room) e); fits = leb-true long room (and-right (fewEnough m n) (leb long room) e) }
 
 pub written-is : (m n long room : ℕ) → m ≤ 32 → n ≤ 64 → long ≤ room → writes m n long room ≡ true
-written-is m n long room l k f = writes-by m n long room true (counted-is m n l k) ∙ le-leb long room f
+written-is m n long room l k f = writes-by m n long room true (few-make m n l k) ∙ le-leb long room f
 
 -- ---- the lent bytes afterwards
 

@@ -48,12 +48,12 @@ sealedLength m n = 16 + 4 * m + 6 * n
 -- ---- written to lent bytes
 
 -- sheets are written of at most 32 items and 64 bidders
-unfoldable pub counted : ℕ → ℕ → Bool
-counted m n = leb m 32 && leb n 64
+unfoldable pub fewEnough : ℕ → ℕ → Bool
+fewEnough m n = leb m 32 && leb n 64
 
 -- so many bytes are written where there is room: none for other counts
 unfoldable pub bytesOf : (m n long : ℕ) → ℕ
-bytesOf m n long = cond (counted m n) long 0
+bytesOf m n long = cond (fewEnough m n) long 0
 
 -- lent bytes after the sheet is written to their front: bytes past the sheet stay as they came
 unfoldable pub writtenTo : List ℕ → List ℕ → List ℕ
@@ -61,7 +61,7 @@ writtenTo out sheet = sheet ++ drop (length sheet) out
 
 -- a sheet of so many bytes is written: of such counts, into bytes that are not too few for it
 unfoldable pub writes : (m n long room : ℕ) → Bool
-writes m n long room = counted m n && leb long room
+writes m n long room = fewEnough m n && leb long room
 
 -- the lent bytes afterwards: as before where the sheet is not written
 unfoldable pub afterWriting : (m n : ℕ) (sheet out : List ℕ) → List ℕ

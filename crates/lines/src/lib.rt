@@ -7,7 +7,7 @@ ghost use lib.Dec.{ltb};
 ghost use lib.ListN.{length, getD};
 ghost use lib.Seq.{sets};
 ghost use Rattle.digits.specs.Digits.{hex};
-ghost use Rattle.lines.specs.Lines.{newline, joined, numberText, numberLine, amountsLine, closingSheet, sealedSheet, closingLength, sealedLength, counted, bytesOf, writes, afterWriting, hasRoom};
+ghost use Rattle.lines.specs.Lines.{newline, joined, numberText, numberLine, amountsLine, closingSheet, sealedSheet, closingLength, sealedLength, fewEnough, bytesOf, writes, afterWriting, hasRoom};
 
 // The first line: rounds raised and rounds lowered.
 fn put_rounds(out: &mut [u8], raised: u32, lowered: u32)
@@ -81,8 +81,8 @@ pub fn write_refusal(out: &mut [u8], number: u8)
 }
 
 // Whether sheets of such counts are written: at most 32 items and 64 bidders.
-fn counted(items: usize, bidders: usize) -> bool
-    ensures { λ r. ⌜ r ≡ counted items bidders ⌝ }
+fn few_enough(items: usize, bidders: usize) -> bool
+    ensures { λ r. ⌜ r ≡ fewEnough items bidders ⌝ }
 {
     if 32 < items {
         return false;
@@ -94,7 +94,7 @@ fn counted(items: usize, bidders: usize) -> bool
 pub fn closing_length(items: usize, bidders: usize) -> usize
     ensures { λ r. ⌜ r ≡ bytesOf items bidders (closingLength items bidders) ⌝ }
 {
-    if !counted(items, bidders) {
+    if !few_enough(items, bidders) {
         return 0;
     }
     15 + 4 * items + 2 * bidders
@@ -104,7 +104,7 @@ pub fn closing_length(items: usize, bidders: usize) -> usize
 pub fn sealed_length(items: usize, bidders: usize) -> usize
     ensures { λ r. ⌜ r ≡ bytesOf items bidders (sealedLength items bidders) ⌝ }
 {
-    if !counted(items, bidders) {
+    if !few_enough(items, bidders) {
         return 0;
     }
     16 + 4 * items + 6 * bidders
@@ -114,7 +114,7 @@ pub fn sealed_length(items: usize, bidders: usize) -> usize
 fn writes(items: usize, bidders: usize, long: usize, room: usize) -> bool
     ensures { λ r. ⌜ r ≡ writes items bidders long room ⌝ }
 {
-    if !counted(items, bidders) {
+    if !few_enough(items, bidders) {
         return false;
     }
     long <= room

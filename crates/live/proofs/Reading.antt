@@ -19,7 +19,7 @@ use Rattle.assignment.proofs.Narrowing.{assignment-narrow}
 use Rattle.lines.specs.Lines.{closingSheet, closingLength, writtenTo, writes, afterWriting}
 use Rattle.lines.proofs.Same.{sheet-same}
 use Rattle.lines.proofs.Lengths.{closing-length}
-use Rattle.lines.proofs.Written.{counted-is, writes-by, afterwards}
+use Rattle.lines.proofs.Written.{few-make, writes-by, afterwards}
 use Rattle.live.specs.Auction.{itemsAbove, reportsOf, wellFormed}
 use Rattle.live.specs.Calls.{isClosed}
 use Rattle.live.specs.Reading.{tooFew, namesOf, sheetOf, readNumber, readBytes}
@@ -52,7 +52,7 @@ module _ (r : Auction) (t : Tidy r) where
 
   writes-here : (out : List ℕ) → writes (r .items) (r .bidders) (closingLength (r .items) (r .bidders)) (length out) ≡ not (tooFew r out)
   writes-here out =
-      writes-by (r .items) (r .bidders) long (length out) true (counted-is (r .items) (r .bidders) (items-range r (t .counts) .1) (bidders-range r (t .counts) .1))
+      writes-by (r .items) (r .bidders) long (length out) true (few-make (r .items) (r .bidders) (items-range r (t .counts) .1) (bidders-range r (t .counts) .1))
       ∙ go (lt-or-le (length out) long)
     where
       go : (length out < long) ⊎ (long ≤ length out) → leb long (length out) ≡ not (ltb (length out) long)

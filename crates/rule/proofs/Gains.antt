@@ -16,7 +16,7 @@ use Rattle.rule.specs.Closing.{FitsAt, assignmentAt}
 use Rattle.rule.specs.Gains.{gain, gainsAt, Gains}
 use Rattle.rule.proofs.Zeros.{demanded-best}
 use Rattle.rule.proofs.AtPrices.{map-at, nth-demands, demands-length}
-use Rattle.rule.proofs.Highest.{surplus-most, best-surplus}
+use Rattle.rule.proofs.Highest.{surplus-most, surplus-some, best-surplus}
 use Rattle.rule.proofs.Fitting.{fits-use}
 
 module _ (m : ℕ) (bids : List (List ℕ)) (p : List ℕ) where
@@ -68,3 +68,15 @@ gains s p fitting = record { found = found; exact = λ b l. omega (arith, at b l
             surplus-at (s .items) (s .bids) p b l
             ∙ sym (gain-is (s .items) above (s .bids) p (assignmentAt s p) fitting b l)
             ∙ ap (gain (s .bids) p (assignmentAt s p)) (sym (zero-add b))
+
+-- the last two sentences leave nothing open: whatever gains they hold of are the highest surpluses. One says that some option leaves as much, the other that none
+-- leaves more
+pub exact-most : (s : Sheet) (p : List ℕ) → FitsAt s p (assignmentAt s p) → Gains s p → (b : ℕ) → b < length (s .bids)
+    → getD (gainsAt s p) b 0 ≡ surplus (s .items) p (row (s .bids) b)
+exact-most s p fitting g b l =
+    let line : List ℕ = row (s .bids) b in
+    let has : ℕ = option (assignmentAt s p) b in
+    let named = fits-use (s .items) (aboveFloors (s .items) (s .floors) p) (demands (s .items) (s .bids) p) (assignmentAt s p) fitting in
+    let small : has < suc (s .items) = named .assigns .small b (omega (arith, l, demands-length (s .items) (s .bids) p)) in
+    let w = surplus-some (s .items) p line in
+    omega (arith, g .exact b l, surplus-most (s .items) p line has small, g .most b (w .0) l (w .1), w .2)

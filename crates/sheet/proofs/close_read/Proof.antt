@@ -7,7 +7,7 @@ use borrow.Author.Needs.{needs}
 use mathlib.Core.Bool.{true, false}
 use Rattle.rule.specs.Refusal.{badItems, badBidders}
 use Rattle.lines.specs.Lines.{sealedLength, bytesOf}
-use Rattle.lines.proofs.Written.{counted-is, bytes-by, written-is}
+use Rattle.lines.proofs.Written.{few-make, bytes-by, written-is}
 use Rattle.auction.specs.declared.Closing.{Closing}
 use Rattle.sheet.specs.Steps.{readRefusal}
 use Rattle.sheet.proofs.Ends.{no-room, by-sealed, not-written, is-written}
@@ -17,7 +17,7 @@ use Rattle.sheet.proofs.close_read.Tie as tie
 
 -- counts in order make a closing sheet
 long : (m n : ℕ) → badItems m ≡ false → badBidders n ≡ false → bytesOf m n (sealedLength m n) ≡ sealedLength m n
-long m n e f = bytes-by m n (sealedLength m n) true (counted-is m n (most-items m e) (most-bidders n f))
+long m n e f = bytes-by m n (sealedLength m n) true (few-make m n (most-items m e) (most-bidders n f))
 
 sealed-length-requires : tie.Need-sealed-length-requires
 sealed-length-requires c κs = search needs
