@@ -21,7 +21,7 @@ use Rattle.rule.specs.Refusal.{first, badItems, badBidders, badLength, anyOver,
 use Rattle.digits.specs.Digits.{digit, hex}
 use Rattle.lines.specs.Lines.{newline, joined, amountsLine, closingSheet, closingLength, writtenTo}
 use Rattle.round.specs.Reports.{reports}
-use Rattle.reports.specs.Report.{saying, isEmpty, beyond, unfit}
+use Rattle.reports.specs.Report.{saying, isEmpty, beyond, unfit, sameBool, sameDemand}
 use Rattle.live.specs.Auction.{place, hasReported, missing, reportsOf, itemsAbove, risingSet, fallingSet, countsFit, pricesFit, unusedPrices, floorsFit, fromFloors, unusedFloors, unusedPlaces, unusedBits, reportedFit, othersEmpty, roundsFit, closeFits, wellFormed}
 use Rattle.live.specs.Calls.{openAboveNumber, opened, unopened, openedBy, openAbove, reportNumber, withReport, report, clearNumber, cleared, clear, atTop, endNumber, roundBy, settled, gives, refused, endAnswer, endNext}
 use Rattle.live.specs.Reading.{readNumber, namesOf, sheetOf, readBytes}
@@ -29,7 +29,7 @@ use Rattle.live.specs.declared.Auction.{Auction}
 use Rattle.live.specs.declared.Phase.{Phase}
 use Rattle.live.specs.declared.Phase.the-variants.{Rising, Falling, Closed}
 use Rattle.agreement.specs.Calls.{Call, reporting, ending, clearing, reading, Answer, told, ended, shown, call, run}
-use Rattle.agreement.specs.Machine.{Machine, begin, at, phaseOf, phase, doesStand, said, saidAll, isMissing, sameBool, sameDemand, standsAs, demandsStand, tells, machineReport, machineClear, machineReadNumber, threeLines, machineRead, machineEndNumber, next, turned, machineEnd, machine, MachineRan, ran, left, behind, machineRun}
+use Rattle.agreement.specs.Machine.{Machine, begin, at, phaseOf, phase, doesStand, said, saidAll, isMissing, standsAs, demandsStand, tells, machineReport, machineClear, machineReadNumber, threeLines, machineRead, machineEndNumber, next, turned, machineEnd, machine, MachineRan, ran, left, behind, machineRun}
 use Rattle.agreement.specs.Agreement.{openingOf, liveRun, standsFor, allRounds}
 
 -- the definitions that the instances compute with

@@ -19,31 +19,18 @@ use Rattle.rule.specs.Excess.{excessDemand, aboveFloors}
 use Rattle.rule.specs.Closing.{demandsAt}
 use Rattle.rule.proofs.AtPrices.{demands-length}
 use Rattle.rule.proofs.Limits.{Limits}
+use Rattle.reports.proofs.Same.{same-demand}
 use Rattle.round.specs.Reports.{reports}
 use Rattle.round.proofs.Reporting.{tabulate-nth}
 use Rattle.live.specs.Auction.{hasReported, missing, reportsOf, itemsAbove, risingSet}
 use Rattle.live.specs.Calls.{isClosed, atTop}
-use Rattle.agreement.specs.Machine.{Standing, none, stands, Machine, at, phaseOf, phase, doesStand, said, saidAll, isMissing, sameBool, sameDemand, standsAs, demandsStand}
+use Rattle.agreement.specs.Machine.{Standing, none, stands, Machine, at, phaseOf, phase, doesStand, said, saidAll, isMissing, standsAs, demandsStand}
 use Rattle.agreement.specs.Agreement.{standsFor}
 
 abbrev nothing : Demand
 nothing = record { null = false; items = 0 }
 
 -- ---- demands that stand
-
-same-bool : (a b : Bool) → sameBool a b ≡ true → a ≡ b
-unfolding sameBool
-same-bool true true e = refl
-same-bool true false e = sym e
-same-bool false true e = e
-same-bool false false e = refl
-
-same-demand : (d e : Demand) → sameDemand d e ≡ true → d ≡ e
-unfolding sameDemand
-same-demand d e h =
-    let a = same-bool (d .null) (e .null) (and-left (sameBool (d .null) (e .null)) (eqb (d .items) (e .items)) h) in
-    let b = eqb-true (d .items) (e .items) (and-right (sameBool (d .null) (e .null)) (eqb (d .items) (e .items)) h) in
-    ap (λ (x : Bool). record { null = x; items = d .items }) a ∙ ap (λ (y : ℕ). record { null = e .null; items = y }) b
 
 stands-as : (x : Standing) (e : Demand) → standsAs x e ≡ true → (doesStand x ≡ true) × (said x ≡ e)
 unfolding standsAs doesStand said

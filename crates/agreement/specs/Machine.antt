@@ -13,7 +13,7 @@ use Rattle.rule.specs.Round.{Round, raised, lowered, closed, State, path, close
 use Rattle.rule.specs.Closing.{demandsAt, roundOf, assignmentAt}
 use Rattle.rule.specs.Refusal.{on, first, badBidder}
 use Rattle.lines.specs.Lines.{closingSheet, closingLength, writtenTo}
-use Rattle.reports.specs.Report.{unfit}
+use Rattle.reports.specs.Report.{unfit, sameDemand}
 use Rattle.live.specs.Calls.{isFalling, isRising, atTop, gives, refused}
 use Rattle.live.specs.declared.Phase.{Phase}
 use Rattle.live.specs.declared.Phase.the-variants.{Rising, Falling, Closed}
@@ -65,13 +65,6 @@ saidAll s t = tabulate (length (s .bids)) (λ k. said (t .standing (suc k))) 0
 -- a report is missing
 unfoldable pub isMissing : Sheet → Machine → Bool
 isMissing s t = anyBelow (length (s .bids)) λ k. not (doesStand (t .standing (suc k)))
-
-unfoldable pub sameBool : Bool → Bool → Bool
-sameBool true b = b
-sameBool false b = not b
-
-unfoldable pub sameDemand : Demand → Demand → Bool
-sameDemand d e = sameBool (d .null) (e .null) && eqb (d .items) (e .items)
 
 unfoldable pub standsAs : Standing → Demand → Bool
 standsAs none e = false

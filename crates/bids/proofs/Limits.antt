@@ -12,7 +12,7 @@ use borrow.Author.Tests.{le-leb, eq-eqb}
 use Rattle.sets.proofs.Counting.{all-make, and-both}
 use Rattle.rule.specs.Sheet.{amount, row, each4095, withinLimits}
 use Rattle.rule.specs.Refusal.{on, first, badItems, badBidders, badLength, anyOver, badFloors}
-use Rattle.rule.proofs.Limits.{Limits, limits}
+use Rattle.rule.proofs.Limits.{Limits, limits, each-make, within-make}
 use Rattle.rule.proofs.Refusal.{passed, none, first-nil, in-range, range-in, exact, exact-is, none-over, over-not, floors-in, floors-fit, floors-none}
 use Rattle.bids.specs.Lent.{lineOf, rowsOf, sheetAbove}
 use Rattle.bids.specs.Refusal.{sealedAboveRefusal, sealedRefusal}
@@ -74,33 +74,19 @@ module _ (m n : ℕ) (start floors bids : List ℕ) where
 
   -- ---- it is within the limits
 
-  each-make : (xs : List ℕ) → length xs ≡ m → ((k : ℕ) → k < m → getD xs k 0 ≤ 4095) → each4095 m xs ≡ true
-  unfolding each4095 amount
-  each-make xs e h = and-both (eqb (length xs) m) _ (eq-eqb (length xs) m e) (all-make m (λ k. leb (getD xs k 0) 4095) (λ k l. le-leb (getD xs k 0) 4095 (h k l)))
-
   within : Fine m n start floors bids → withinLimits (sheetAbove m n start floors bids) ≡ true
-  unfolding withinLimits sheetAbove
+  unfolding sheetAbove
   within f =
       let len : length (rowsOf m n bids) ≡ n = rows-length m n bids in
-      and-both _ _
-      (and-both _ _
-      (and-both _ _
-      (and-both _ _
-      (and-both _ _
-      (and-both _ _
-      (and-both (leb 1 m) (leb m 32) (le-leb 1 m (f .some-item)) (le-leb m 32 (f .max-items)))
-      (le-leb 1 (length (rowsOf m n bids)) (omega (arith, len, f .some-bidder))))
-      (le-leb (length (rowsOf m n bids)) 64 (omega (arith, len, f .max-bidders))))
-      (each-make start (f .start-long) (λ k l. f .starts k (omega (arith, l, f .start-long)))))
-      (each-make floors (f .floors-long) (λ k l. f .floors-most k (omega (arith, l, f .floors-long)))))
-      (all-make m (λ k. leb (amount floors (suc k)) (amount start (suc k))) (λ k l. unfold amount in le-leb (getD floors k 0) (getD start k 0) (f .floors-below k))))
-      (all-make (length (rowsOf m n bids)) (λ b. each4095 m (row (rowsOf m n bids) b)) (λ b l. line b (omega (arith, l, len))))
+      within-make (sheetAbove m n start floors bids) (f .some-item) (f .max-items) (omega (arith, len, f .some-bidder)) (omega (arith, len, f .max-bidders))
+      (each-make m start (f .start-long) (λ k l. f .starts k (omega (arith, l, f .start-long)))) (each-make m floors (f .floors-long) (λ k l. f .floors-most k (omega (arith, l, f .floors-long))))
+      (λ k l. unfold amount in f .floors-below k) (λ b l. line b (omega (arith, l, len)))
     where
       line : (b : ℕ) → b < n → each4095 m (row (rowsOf m n bids) b) ≡ true
       line b l =
           let long = line-inside m n b (length bids) (f .bids-long) l in
           subst (λ (xs : List ℕ). each4095 m xs ≡ true) (sym (row-at m n bids b l))
-          (each-make (lineOf m bids b) (line-length m bids b long)
+          (each-make m (lineOf m bids b) (line-length m bids b long)
           (λ k lk. let most = f .amounts (b * m + k) (omega (arith, long, lk)) in omega (arith, line-at m bids b k lk, most)))
 
   -- ---- and a sheet within the limits is fine, if the bids have their exact length

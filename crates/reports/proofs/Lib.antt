@@ -1,2 +1,3 @@
 pub mod Laws
 pub mod Fitting
+pub mod Same

@@ -131,6 +131,11 @@ any-make (suc n) f k l e = go (any-make n f k) (below-suc l)
 pub any-false : (n : ℕ) (f : ℕ → Bool) → ((k : ℕ) → k < n → f k ≡ false) → anyBelow n f ≡ false
 any-false n f h = is-false (anyBelow n f) (λ e. let w = any-use n f e in not-both (f (w .0)) (w .2) (h (w .0) (w .1)))
 
+pub all-cong : (n : ℕ) (f g : ℕ → Bool) → ((k : ℕ) → k < n → f k ≡ g k) → allBelow n f ≡ allBelow n g
+unfolding allBelow
+all-cong zero f g h = refl
+all-cong (suc n) f g h = ap₂ _&&_ (h n (omega arith)) (all-cong n f g (λ k l. h k (omega arith)))
+
 pub any-cong : (n : ℕ) (f g : ℕ → Bool) → ((k : ℕ) → k < n → f k ≡ g k) → anyBelow n f ≡ anyBelow n g
 unfolding anyBelow
 any-cong zero f g h = refl

@@ -1,0 +1,5 @@
+pub mod Table
+pub mod Allowed
+pub mod Lent
+pub mod Shifted
+pub mod Constraint
