@@ -1,5 +1,5 @@
 -- The definitions at given numbers. Assumes nothing.
-use Prim.Native.Nat.{ℕ}
+use Prim.Native.Nat.{ℕ, _+_, _-_, _*_}
 use mathlib.Core.Path.{_≡_, refl}
 use mathlib.Core.Bool.{true, false}
 use mathlib.Core.List.{List, [], _∷_}
@@ -11,9 +11,9 @@ use Rattle.sets.specs.Count.{allBelow}
 use Rattle.rule.specs.Sheet.{amount}
 use Rattle.rule.specs.Demand.{surplusAtLeast, best, demand}
 use Rattle.reports.specs.Report.{saying, sameBool, sameDemand}
-use Rattle.differences.specs.Table.{entry, meets, greatestBelow, isBeyond, isZero, isDifference}
+use Rattle.differences.specs.Table.{entry, meets, greatestBelow, isBeyond, isZero, isDifference, zeroBeyond, inRange}
 use Rattle.differences.specs.Allowed.{explains}
-use Rattle.differences.specs.Lent.{flat, rowsOf}
+use Rattle.differences.specs.Lent.{flat, rowsOf, part, tableAt, flatAll}
 use Rattle.differences.specs.Constraint.{upper, lower}
 
 -- ---- a report's constraints: an option of price 5 or 0, a pivot of price 7 or null
@@ -63,6 +63,22 @@ pub zeros : (isZero (pos 0) ≡ true) × (isZero (pos 1) ≡ false) × (isZero (
 unfolding isZero
 zeros = (refl, refl, refl)
 
+-- a number other than 0 in the last place: it is beyond 31 items, and of 32 it is one of theirs
+abbrev last : List (List ℤ)
+last = tabulate 33 (λ i. tabulate 33 (λ j. pos (i * 33 + j - 1087)) 0) 0
+
+pub beyond-last : (zeroBeyond 31 last ≡ false) × (zeroBeyond 32 last ≡ true)
+unfolding zeroBeyond isBeyond isZero entry allBelow tabulate
+beyond-last = (refl, refl)
+
+-- 4,096 in row 1, column 2: of two items, and not of one
+abbrev high : List (List ℤ)
+high = [] ∷ (pos 0 ∷ pos 0 ∷ pos 4096 ∷ []) ∷ []
+
+pub ranged : (inRange 1 high ≡ true) × (inRange 2 high ≡ false)
+unfolding inRange isDifference entry each allBelow
+ranged = (refl, refl)
+
 -- ---- a report: null, and two items at their bids of 0 and 3
 
 pub explained : (explains 2 (0 ∷ 3 ∷ []) (saying true 2) (0 ∷ 3 ∷ []) ≡ true) × (explains 2 (0 ∷ 3 ∷ []) (saying true 3) (0 ∷ 3 ∷ []) ≡ false) × (explains 2 (0 ∷ 3 ∷ []) (saying false 2) (0 ∷ 4 ∷ []) ≡ true)
@@ -78,3 +94,12 @@ joined = refl
 pub row-place : (entry (rowsOf (tabulate 1089 pos 0)) 0 32 ≡ pos 32) × (entry (rowsOf (tabulate 1089 pos 0)) 1 0 ≡ pos 33) × (entry (rowsOf (tabulate 1089 pos 0)) 2 5 ≡ pos 71)
 unfolding entry rowsOf tabulate
 row-place = (refl, refl, refl)
+
+-- the second bidder's table begins behind 1,089 numbers
+pub table-place : (entry (tableAt (tabulate 2178 pos 0) 0) 32 32 ≡ pos 1088) × (entry (tableAt (tabulate 2178 pos 0) 1) 0 0 ≡ pos 1089)
+unfolding tableAt part entry rowsOf tabulate
+table-place = (refl, refl)
+
+pub one-after-other : flatAll 2 (λ k. (pos k ∷ []) ∷ (pos 5 ∷ []) ∷ []) ≡ pos 0 ∷ pos 5 ∷ pos 1 ∷ pos 5 ∷ []
+unfolding flatAll flat
+one-after-other = refl

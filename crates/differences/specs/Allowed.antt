@@ -1,4 +1,4 @@
--- Bids that explain a report, and the narrowed table: request #107. Assumes nothing: these are definitions.
+-- Bids that explain a report, and the narrowed table: document 02, #107. Assumes nothing: these are definitions.
 use Prim.Native.Nat.{ℕ}
 use mathlib.Core.Bool.{Bool, _&&_, not}
 use mathlib.Core.List.{List}

@@ -1,4 +1,4 @@
--- Number 11 applied, clause by clause, then openings with floors and reading a close, by computation from the definitions alone. Each case of 11 is two records that differ in one
+-- Number 11 applied, clause by clause, then openings, the lent tables and reading a close, by computation from the definitions alone. Each case of 11 is two records that differ in one
 -- number: the first, at the limit of the clause, is well formed, and the second is not. So a clause that is dropped or made weaker makes a case false, and so does
 -- one that is made stronger. Three clauses never turn a record down alone, and two of them have cases by themselves: a floor above 4,095 and an unused floor that is
 -- not zero are always also above their price, or the price breaks its own clause. The third has none: a bit of an item set past the items is always also in a
@@ -9,13 +9,15 @@ use mathlib.Core.Path.{_≡_, refl}
 use mathlib.Core.Bool.{Bool, true, false}
 use mathlib.Core.List.{List, [], _∷_}
 use lib.ListN.{replicate, set}
+use lib.IntN.{ℤ, pos}
 use Rattle.sets.specs.Count.{allBelow, anyBelow, count}
 use Rattle.sets.specs.Bit.{bit, isSet, has, setOf, each, any, size, lowest}
 use Rattle.sets.specs.Largest.{largestBelow, largest}
 use Rattle.sets.specs.Lists.{tabulate, places}
 use Rattle.sets.specs.Sum.{sum}
 use Rattle.rule.specs.Sheet.{amount, priceSum}
-use Rattle.rule.specs.Demand.{wants, nth}
+use Rattle.rule.specs.Demand.{Demand, wants, nth}
+use Rattle.rule.specs.Round.{raised, lowered, closed}
 use Rattle.rule.specs.Excess.{bidders, crowded, inExcess, inPositiveExcess, excessDemand, positiveExcessDemand, excessSupply, aboveFloors}
 use Rattle.rule.specs.Assignment.{option, holders, isAssignment, fits, someList, choose, assignment}
 use Rattle.rule.specs.Refusal.{first, badItems, badBidders, badLength, anyOver, anyUnder, badFloors}
@@ -23,7 +25,8 @@ use Rattle.lines.specs.Lines.{joined, amountsLine, closingSheet, closingLength,
 use Rattle.round.specs.Reports.{reports}
 use Rattle.reports.specs.Report.{isEmpty, beyond, unfit}
 use Rattle.live.specs.Auction.{place, hasReported, missing, reportsOf, itemsAbove, risingSet, fallingSet, countsFit, pricesFit, unusedPrices, floorsFit, fromFloors, unusedFloors, unusedPlaces, unusedBits, reportedFit, othersEmpty, roundsFit, closeFits, wellFormed}
-use Rattle.live.specs.Calls.{openAboveNumber, zeros, opened, unopened, openedBy, openAbove}
+use Rattle.live.specs.Tables.{badTables, openTables, narrowedTables}
+use Rattle.live.specs.Calls.{openNumber, openAboveNumber, zeros, opened, unopened, openedBy, openAuction, openAbove, filledBy, reportNumber, report, clearNumber, endNumber, refused, endAnswer, endNext, narrowedBy, endTables}
 use Rattle.live.specs.Reading.{readNumber, namesOf, sheetOf, readBytes}
 use Rattle.live.specs.declared.Auction.{Auction}
 use Rattle.live.specs.declared.Phase.{Phase}
@@ -31,7 +34,7 @@ use Rattle.live.specs.declared.Phase.the-variants.{Rising, Falling, Clos
 
 -- the definitions that the cases compute with
 computing : Unit {0}
-unfolding amount wants nth bidders crowded inExcess inPositiveExcess excessDemand positiveExcessDemand excessSupply aboveFloors allBelow anyBelow count bit isSet has setOf each any size largestBelow largest sum priceSum first badItems badBidders badLength anyOver anyUnder badFloors tabulate places reports place hasReported missing isEmpty beyond unfit reportsOf itemsAbove risingSet fallingSet countsFit pricesFit unusedPrices floorsFit fromFloors unusedFloors unusedPlaces unusedBits reportedFit othersEmpty roundsFit closeFits wellFormed openAboveNumber zeros opened unopened openedBy openAbove lowest option holders isAssignment fits someList choose assignment joined amountsLine closingSheet closingLength writtenTo readNumber namesOf sheetOf readBytes
+unfolding amount wants nth bidders crowded inExcess inPositiveExcess excessDemand positiveExcessDemand excessSupply aboveFloors allBelow anyBelow count bit isSet has setOf each any size largestBelow largest sum priceSum first badItems badBidders badLength anyOver anyUnder badFloors tabulate places reports place hasReported missing isEmpty beyond unfit reportsOf itemsAbove risingSet fallingSet countsFit pricesFit unusedPrices floorsFit fromFloors unusedFloors unusedPlaces unusedBits reportedFit othersEmpty roundsFit closeFits wellFormed badTables openNumber openAboveNumber zeros opened unopened openedBy openAuction openAbove filledBy reportNumber report clearNumber endNumber endAnswer endNext narrowedBy endTables lowest option holders isAssignment fits someList choose assignment joined amountsLine closingSheet closingLength writtenTo readNumber namesOf sheetOf readBytes
 computing = tt
 
 -- number 11 lets the first record pass, and turns the second down
@@ -265,11 +268,15 @@ pub closed-on-floor : Tells (holds 1 2 (1 ∷ []) (1 ∷ []) [] 3 3 Closed 0 0) 
 unfolding computing
 closed-on-floor = record { passes = refl; refuses = refl }
 
--- ---- openings with floors: 1, 2, 3 (starting prices, then floors), 4, 18
+-- ---- openings with floors: 1, 2, 3 (starting prices, floors, tables), 4, 18
+
+-- so many numbers of tables
+abbrev pub lent : ℕ → List ℤ
+lent n = replicate n (pos 0)
 
 -- two items and a bidder with these starting prices and floors
 abbrev pub opening : List ℕ → List ℕ → ℕ
-opening start floors = openAboveNumber 2 1 start floors
+opening start floors = openAboveNumber 2 1 start floors (lent 1089)
 
 -- a starting price on its floor, and one below it; a floor above 4,095
 pub on-floor : opening (5 ∷ 4 ∷ []) (3 ∷ 4 ∷ []) ≡ 0
@@ -307,24 +314,108 @@ unfolding computing
 start-short = refl
 
 -- before that 1, and then 2, where nothing fits
-pub counts-first : (openAboveNumber 0 0 (1 ∷ []) [] ≡ 1) × (openAboveNumber 33 65 [] [] ≡ 1) × (openAboveNumber 1 0 [] [] ≡ 2) × (openAboveNumber 32 65 [] [] ≡ 2)
+pub counts-first : (openAboveNumber 0 0 (1 ∷ []) [] (lent 1) ≡ 1) × (openAboveNumber 33 65 [] [] [] ≡ 1) × (openAboveNumber 1 0 [] [] (lent 1) ≡ 2) × (openAboveNumber 32 65 [] [] [] ≡ 2)
 unfolding computing
 counts-first = (refl, refl, refl, refl)
 
 -- the record holds the starting prices and the floors
-pub opens-above : openAbove 2 1 (5 ∷ 4 ∷ []) (3 ∷ 4 ∷ []) ≡ record { number = 0; next = holds 2 1 (5 ∷ 4 ∷ []) (3 ∷ 4 ∷ []) [] 0 0 Rising 0 0 }
+pub opens-above : openAbove 2 1 (5 ∷ 4 ∷ []) (3 ∷ 4 ∷ []) (lent 1089) ≡ record { number = 0; next = holds 2 1 (5 ∷ 4 ∷ []) (3 ∷ 4 ∷ []) [] 0 0 Rising 0 0 }
 unfolding computing
 opens-above = refl
 
 -- beside a number the record is of zeros
-pub opens-not : openAbove 2 1 (5 ∷ 3 ∷ []) (3 ∷ 4 ∷ []) ≡ record { number = 18; next = holds 0 0 [] [] [] 0 0 Rising 0 0 }
+pub opens-not : openAbove 2 1 (5 ∷ 3 ∷ []) (3 ∷ 4 ∷ []) (lent 1089) ≡ record { number = 18; next = holds 0 0 [] [] [] 0 0 Rising 0 0 }
 unfolding computing
 opens-not = refl
 
--- ---- reading a close: example 6, whose bidders report items 1 and 2 and null, items 1 and 2, and item 1
+-- ---- openings without floors: 1, 2, 3 (starting prices, tables), 4
 
+pub without-floors : (openNumber 33 0 [] [] ≡ 1) × (openNumber 2 65 [] [] ≡ 2) × (openNumber 2 1 (4096 ∷ []) (lent 1089) ≡ 3) × (openNumber 2 1 (5 ∷ 4096 ∷ []) (lent 1089) ≡ 4) × (openNumber 2 1 (5 ∷ 4095 ∷ []) (lent 1089) ≡ 0)
+unfolding computing
+without-floors = (refl, refl, refl, refl, refl)
+
+-- one number of the tables is missing: 3, and before 4
+pub tables-without-floors : (openNumber 2 2 (5 ∷ 4 ∷ []) (lent 2177) ≡ 3) × (openNumber 2 2 (5 ∷ 4096 ∷ []) (lent 2177) ≡ 3)
+unfolding computing
+tables-without-floors = (refl, refl)
+
+-- then the floors of the record are 0
+pub opens-without : openAuction 2 1 (5 ∷ 4 ∷ []) (lent 1089) ≡ record { number = 0; next = holds 2 1 (5 ∷ 4 ∷ []) [] [] 0 0 Rising 0 0 }
+unfolding computing
+opens-without = refl
+
+-- ---- the lent tables: 1,089 numbers for each bidder, else 3
+
+-- example 6, closed: the bidders report items 1 and 2 and null, items 1 and 2, and item 1
 abbrev pub closedSix : Auction
 closedSix = holds 2 3 (2 ∷ 6 ∷ []) [] (3 ∷ 3 ∷ 1 ∷ []) 1 7 Closed 2 2
+
+abbrev pub itemOne : Demand
+itemOne = record { null = false; items = 1 }
+
+pub tables-exact : openAboveNumber 2 2 (5 ∷ 4 ∷ []) (3 ∷ 4 ∷ []) (lent 2178) ≡ 0
+unfolding computing
+tables-exact = refl
+
+-- one number too few, those of one bidder alone, none
+pub tables-short : (openAboveNumber 2 2 (5 ∷ 4 ∷ []) (3 ∷ 4 ∷ []) (lent 2177) ≡ 3) × (openAboveNumber 2 2 (5 ∷ 4 ∷ []) (3 ∷ 4 ∷ []) (lent 1089) ≡ 3) × (openAboveNumber 2 2 (5 ∷ 4 ∷ []) (3 ∷ 4 ∷ []) [] ≡ 3)
+unfolding computing
+tables-short = (refl, refl, refl)
+
+-- one too many
+pub tables-long : (openAboveNumber 2 2 (5 ∷ 4 ∷ []) (3 ∷ 4 ∷ []) (lent 2179) ≡ 3) × (reportNumber (priced (5 ∷ 1 ∷ [])) (lent 3268) 4 itemOne ≡ 3) × (endNumber (priced (5 ∷ 1 ∷ [])) (lent 3268) ≡ 3)
+unfolding computing
+tables-long = (refl, refl, refl)
+
+-- this 3 comes after 1 and 2 (counts-first), and before 4 and 18
+pub tables-before-four : (openAboveNumber 2 1 (5 ∷ 4096 ∷ []) (3 ∷ 4097 ∷ []) (lent 1088) ≡ 3) × (openAboveNumber 2 1 (5 ∷ 3 ∷ []) (3 ∷ 4 ∷ []) (lent 1088) ≡ 3)
+unfolding computing
+tables-before-four = (refl, refl)
+
+-- an opening fills the tables, and one that is turned down leaves them as they came
+pub fills : filledBy 0 2 1 (lent 1089) ≡ openTables 2 1
+unfolding computing
+fills = refl
+
+pub fills-not : filledBy 3 2 1 (lent 7) ≡ lent 7
+unfolding computing
+fills-not = refl
+
+-- a record that is not well formed is 11, whatever the tables' length: here a price stands past the items
+pub eleven-first : (reportNumber (priced (5 ∷ 1 ∷ 1 ∷ [])) [] 4 itemOne ≡ 11) × (endNumber (priced (5 ∷ 1 ∷ 1 ∷ [])) [] ≡ 11)
+unfolding computing
+eleven-first = (refl, refl)
+
+-- else 3 where that is wrong, on a closed record too
+pub three-before-twelve : (reportNumber closedSix (lent 3266) 4 itemOne ≡ 3) × (endNumber closedSix (lent 3266) ≡ 3)
+unfolding computing
+three-before-twelve = (refl, refl)
+
+-- a clear takes no tables: 11, 12
+pub clears : (clearNumber (priced (5 ∷ 1 ∷ 1 ∷ [])) ≡ 11) × (clearNumber closedSix ≡ 12) × (clearNumber (priced (5 ∷ 1 ∷ [])) ≡ 0)
+unfolding computing
+clears = (refl, refl, refl)
+
+-- a call that is turned down hands back record and tables as they came
+pub report-kept : report closedSix (lent 1) 1 itemOne ≡ record { number = 3; next = closedSix }
+unfolding computing
+report-kept = refl
+
+pub end-kept : (endAnswer (priced (5 ∷ 1 ∷ [])) (lent 1) ≡ refused 3) × (endNext (priced (5 ∷ 1 ∷ [])) (lent 1) ≡ priced (5 ∷ 1 ∷ [])) × (endTables (priced (5 ∷ 1 ∷ [])) (lent 1) ≡ lent 1)
+unfolding computing
+end-kept = (refl, refl, refl)
+
+-- a move narrows the tables, up or down
+pub moves-narrow : (narrowedBy closedSix (lent 3267) (raised 1) ≡ narrowedTables closedSix (lent 3267)) × (narrowedBy closedSix (lent 3267) (lowered 1) ≡ narrowedTables closedSix (lent 3267))
+unfolding computing
+moves-narrow = (refl, refl)
+
+-- a close does not
+pub close-keeps : narrowedBy closedSix (lent 3267) closed ≡ lent 3267
+unfolding computing
+close-keeps = refl
+
+-- ---- reading a close: example 6
 
 -- three lines are 29 bytes: into so many it is read, and into one fewer it is not. A sealed closing sheet, which has the gains too, would be 42
 pub read-exactly : (readNumber closedSix (replicate 29 7) ≡ 0) × (readNumber closedSix (replicate 28 7) ≡ 3)

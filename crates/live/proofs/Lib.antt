@@ -1,6 +1,7 @@
 pub mod Applied
 pub mod Parts
 pub mod Opening
+pub mod Lent
 pub mod Phases
 pub mod Formed
 pub mod Places
@@ -10,3 +11,4 @@ pub mod Bounds
 pub mod Sets
 pub mod Reading
 pub mod Reasons
+pub mod Explaining

@@ -2,7 +2,9 @@
 -- nothing outside it than items, and a lowered set has no more bidders who report something in it than items. Assumes nothing.
 use Prim.Native.Nat.{ℕ, zero, suc}
 use mathlib.Core.Path.{_≡_, subst}
+use mathlib.Core.List.{List}
 use lib.ListN.{length}
+use lib.IntN.{ℤ}
 use Rattle.rule.specs.Round.{Round}
 use Rattle.rule.specs.Reasons.{reasonOf, Justified}
 use Rattle.rule.proofs.Reasons.{justified}
@@ -11,11 +13,11 @@ use Rattle.live.specs.Auction.{reportsOf, itemsAbove}
 use Rattle.live.specs.Calls.{endNumber, ruled, roundBy, Ending, gives, refused, endAnswer}
 use Rattle.live.specs.declared.Auction.{Auction}
 
-module _ (r : Auction) where
+module _ (r : Auction) (ts : List ℤ) where
   -- an end that gives a round gives that of the reports
-  given : (x : Round) → endAnswer r ≡ gives x → roundBy r ≡ x
+  given : (x : Round) → endAnswer r ts ≡ gives x → roundBy r ≡ x
   unfolding endAnswer
-  given x e = go (endNumber r) e
+  given x e = go (endNumber r ts) e
     where
       go : (n : ℕ) → _≡_ {A = Ending} (elim n [ zero ↦ gives (roundBy r) | suc j ↦ refused (suc j) ]) (gives x) → roundBy r ≡ x
       go zero h = cc
@@ -27,7 +29,7 @@ module _ (r : Auction) where
   many = reports-length (r .bidders) (r .sets) (r .nulls)
 
   -- so there are as many bidders for its set as a rise takes, or as few as a fall takes; of a close nothing is asked
-  pub moved-justified : (x : Round) → endAnswer r ≡ gives x → Justified (r .items) (r .bidders) (reasonOf (r .items) (reportsOf r) x)
+  pub moved-justified : (x : Round) → endAnswer r ts ≡ gives x → Justified (r .items) (r .bidders) (reasonOf (r .items) (reportsOf r) x)
   unfolding roundBy
   moved-justified x e =
       subst (λ (y : Round). Justified (r .items) (r .bidders) (reasonOf (r .items) (reportsOf r) y)) (given x e)

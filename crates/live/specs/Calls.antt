@@ -4,6 +4,7 @@ use mathlib.Core.Bool.{Bool, true, false, _&&_, _||_, not}
 use mathlib.Core.List.{List, [], _∷_}
 use lib.Dec.{eqb}
 use lib.ListN.{set, replicate}
+use lib.IntN.{ℤ}
 use Rattle.sets.specs.Count.{anyBelow}
 use Rattle.sets.specs.Bit.{has, setOf}
 use Rattle.sets.specs.Lists.{places}
@@ -14,6 +15,7 @@ use Rattle.rule.specs.Round.{Phase as RulePhase}
 use Rattle.rule.specs.Refusal.{on, first, badItems, badBidders, badLength, anyOver, badFloors, badBidder}
 use Rattle.reports.specs.Report.{unfit}
 use Rattle.live.specs.Auction.{reportsOf, hasReported, missing, itemsAbove, risingSet, wellFormed}
+use Rattle.live.specs.Tables.{badTables, tablesFit, openTables, unexplainedAt, anyUnexplained, narrowedTables}
 use Rattle.live.specs.declared.Auction.{Auction}
 use Rattle.live.specs.declared.Phase.{Phase}
 use Rattle.live.specs.declared.Phase.the-variants.{Rising, Falling, Closed}
@@ -39,19 +41,20 @@ isRising Rising = true
 isRising Falling = false
 isRising Closed = false
 
--- ---- open: 1, 2, 3, 4; with floors 1, 2, 3, 4, 18
+-- ---- open: 1, 2, 3, 4; with floors 1, 2, 3, 4, 18. The lent tables `ts` are held against their length alone
 
-unfoldable pub openNumber : (items bidders : ℕ) (start : List ℕ) → ℕ
-openNumber m n start =
-    first (on 1 (badItems m) ∷ on 2 (badBidders n) ∷ on 3 (badLength start m) ∷ on 4 (anyOver start) ∷ [])
+unfoldable pub openNumber : (items bidders : ℕ) (start : List ℕ) (ts : List ℤ) → ℕ
+openNumber m n start ts =
+    first (on 1 (badItems m) ∷ on 2 (badBidders n) ∷ on 3 (badLength start m) ∷ on 3 (badTables n ts) ∷ on 4 (anyOver start) ∷ [])
 
-unfoldable pub openAboveNumber : (items bidders : ℕ) (start floors : List ℕ) → ℕ
-openAboveNumber m n start floors =
+unfoldable pub openAboveNumber : (items bidders : ℕ) (start floors : List ℕ) (ts : List ℤ) → ℕ
+openAboveNumber m n start floors ts =
     first
     (on 1 (badItems m)
     ∷ on 2 (badBidders n)
     ∷ on 3 (badLength start m)
     ∷ on 3 (badLength floors m)
+    ∷ on 3 (badTables n ts)
     ∷ on 4 (anyOver start)
     ∷ on 18 (badFloors start floors)
     ∷ [])
@@ -98,22 +101,30 @@ openedBy zero m n start floors = record { number = 0; next = opened m n start fl
 openedBy (suc j) m n start floors = unopened (suc j)
 
 -- without floors they are 0
-unfoldable pub openAuction : (items bidders : ℕ) (start : List ℕ) → Reply
-openAuction m n start = openedBy (openNumber m n start) m n start (replicate m 0)
+unfoldable pub openAuction : (items bidders : ℕ) (start : List ℕ) (ts : List ℤ) → Reply
+openAuction m n start ts = openedBy (openNumber m n start ts) m n start (replicate m 0)
 
-unfoldable pub openAbove : (items bidders : ℕ) (start floors : List ℕ) → Reply
-openAbove m n start floors = openedBy (openAboveNumber m n start floors) m n start floors
+unfoldable pub openAbove : (items bidders : ℕ) (start floors : List ℕ) (ts : List ℤ) → Reply
+openAbove m n start floors ts = openedBy (openAboveNumber m n start floors ts) m n start floors
 
--- ---- report: 11, 12, 7, 13, 8
+-- the lent tables afterwards, by the opening's number: filled for all bids of 0 to 4,095, or as they came
+unfoldable pub filledBy : (number items bidders : ℕ) (ts : List ℤ) → List ℤ
+filledBy zero m n ts = openTables m n
+filledBy (suc j) m n ts = ts
 
-unfoldable pub reportNumber : Auction → ℕ → Demand → ℕ
-reportNumber r bidder d =
+-- ---- report: 11, 3, 11, 12, 7, 13, 8, 19
+
+unfoldable pub reportNumber : Auction → List ℤ → ℕ → Demand → ℕ
+reportNumber r ts bidder d =
     first
     (on 11 (not (wellFormed r))
+    ∷ on 3 (badTables (r .bidders) ts)
+    ∷ on 11 (not (tablesFit r ts))
     ∷ on 12 (isClosed (r .phase))
     ∷ on 7 (badBidder (r .bidders) bidder)
     ∷ on 13 (hasReported r bidder)
     ∷ on 8 (unfit (r .items) d)
+    ∷ on 19 (unexplainedAt r ts (bidder - 1) d)
     ∷ [])
 
 -- the report takes its bidder's place, and the bidder has reported
@@ -132,8 +143,9 @@ withReport r bidder d =
       lowered = r .lowered;
     }
 
-unfoldable pub report : Auction → ℕ → Demand → Reply
-report r bidder d = let x : ℕ = reportNumber r bidder d in record { number = x; next = elim x [ zero ↦ withReport r bidder d | suc j ↦ r ] }
+-- a report changes no table
+unfoldable pub report : Auction → List ℤ → ℕ → Demand → Reply
+report r ts bidder d = let x : ℕ = reportNumber r ts bidder d in record { number = x; next = elim x [ zero ↦ withReport r bidder d | suc j ↦ r ] }
 
 -- ---- clear: 11, 12
 
@@ -159,18 +171,21 @@ cleared r =
 unfoldable pub clear : Auction → Reply
 clear r = let x : ℕ = clearNumber r in record { number = x; next = elim x [ zero ↦ cleared r | suc j ↦ r ] }
 
--- ---- end the round: 11, 12, 14, then 16 or 17
+-- ---- end the round: 11, 3, 11, 12, 14, 19, then 16 or 17
 
 -- of the items of a set one stands at 4,095
 unfoldable pub atTop : ℕ → List ℕ → ℕ → Bool
 atTop m prices s = anyBelow m λ k. has s (suc k) && eqb (amount prices (suc k)) 4095
 
-unfoldable pub endNumber : Auction → ℕ
-endNumber r =
+unfoldable pub endNumber : Auction → List ℤ → ℕ
+endNumber r ts =
     first
     (on 11 (not (wellFormed r))
+    ∷ on 3 (badTables (r .bidders) ts)
+    ∷ on 11 (not (tablesFit r ts))
     ∷ on 12 (isClosed (r .phase))
     ∷ on 14 (missing r)
+    ∷ on 19 (anyUnexplained r ts)
     ∷ on 16 (isFalling (r .phase) && not (eqb (risingSet r) 0))
     ∷ on 17 (isRising (r .phase) && atTop (r .items) (r .prices) (risingSet r))
     ∷ [])
@@ -242,9 +257,18 @@ endingOf (Moved k s) = gives (moveOf k s)
 endingOf Closes = gives closed
 endingOf (Refused n) = refused n
 
--- the answer, and the record handed back
-unfoldable pub endAnswer : Auction → Ending
-endAnswer r = elim (endNumber r) [ zero ↦ gives (roundBy r) | suc j ↦ refused (suc j) ]
+-- the answer, the record handed back, and the lent tables afterwards
+unfoldable pub endAnswer : Auction → List ℤ → Ending
+endAnswer r ts = elim (endNumber r ts) [ zero ↦ gives (roundBy r) | suc j ↦ refused (suc j) ]
 
-unfoldable pub endNext : Auction → Auction
-endNext r = elim (endNumber r) [ zero ↦ settled r (roundBy r) | suc j ↦ r ]
+unfoldable pub endNext : Auction → List ℤ → Auction
+endNext r ts = elim (endNumber r ts) [ zero ↦ settled r (roundBy r) | suc j ↦ r ]
+
+-- a move narrows each bidder's table, a close none
+unfoldable pub narrowedBy : Auction → List ℤ → Round → List ℤ
+narrowedBy r ts (raised s) = narrowedTables r ts
+narrowedBy r ts (lowered s) = narrowedTables r ts
+narrowedBy r ts closed = ts
+
+unfoldable pub endTables : Auction → List ℤ → List ℤ
+endTables r ts = elim (endNumber r ts) [ zero ↦ narrowedBy r ts (roundBy r) | suc j ↦ ts ]

@@ -1,4 +1,5 @@
 pub mod Auction
+pub mod Tables
 pub mod Calls
 pub mod Tidy
 pub mod Reading

@@ -1,4 +1,5 @@
 // The live auction (document 01: the live letting): the record, and what a call on it hands back.
+mod tables; // tables.rt: the lent tables of all bidders
 mod well_formed; // well_formed.rt: number 11
 
 ghost use mathlib.Core.Path.{_≡_};
@@ -10,13 +11,13 @@ ghost use Rattle.rule.specs.Round.{raised, lowered, closed};
 ghost use Rattle.lines.specs.Lines.{writtenTo};
 ghost use Rattle.reports.specs.Report.{saying};
 ghost use Rattle.live.specs.Auction.{pricesFit, itemsAbove, risingSet, fallingSet};
-ghost use Rattle.live.specs.Calls.{zeros, unopened, openAuction, openAbove, cleared, withReport, isClosed, reportNumber, report, clearNumber, clear, atTop, settled, endingOf, endAnswer, endNext};
+ghost use Rattle.live.specs.Calls.{zeros, unopened, openNumber, openAboveNumber, opened, openAuction, openAbove, filledBy, cleared, withReport, isClosed, reportNumber, report, clearNumber, clear, atTop, settled, endingOf, endAnswer, endNext, endTables};
 ghost use Rattle.live.specs.declared.Phase.the-variants.{Rising, Falling};
 ghost use Rattle.live.specs.declared.Kind.the-variants.{Raised, Lowered};
 ghost use Rattle.live.specs.declared.Ended.the-variants.{Moved, Refused};
 ghost use Rattle.live.specs.declared.Ended.the-variants.{Closed as Closes};
 ghost use Rattle.live.specs.Reading.{tooFew, namesOf, sheetOf, readNumber, readBytes};
-ghost use Rattle.live.specs.Tidy.{Tidy, Ready, Calm};
+ghost use Rattle.live.specs.Tidy.{Tidy, Ready, Calm, fitNumber, readyNumber, roundAnswer, roundNext, isMove};
 
 // document 01: rising, falling, closed
 pub enum Phase {
@@ -75,6 +76,17 @@ fn is_top(on: bool, price: u16) -> bool
     price == 4095
 }
 
+// the round moved
+fn is_move(ended: Ended) -> bool
+    ensures { λ r. ⌜ r ≡ isMove (endingOf ended) ⌝ }
+{
+    match ended {
+        Ended::Moved(_, _) => true,
+        Ended::Closed => false,
+        Ended::Refused(_) => false,
+    }
+}
+
 // zeros only, the phase rising: the record beside an opening that is turned down
 fn zeros() -> Auction
     ensures { λ r. ⌜ r ≡ zeros ⌝ }
@@ -103,57 +115,85 @@ fn refused(number: u8) -> Reply
     }
 }
 
-// opens a live auction with floors: 1, 2, 3 (starting prices, then floors), 4, 18
-pub fn open_above(items: usize, bidders: usize, start: &[u16], floors: &[u16]) -> Reply
-    ensures { λ r. ⌜ r ≡ openAbove items bidders (now (start .entry)) (now (floors .entry)) ⌝ }
+// the number that turns an opening with floors down, or 0: 1, 2, 3 (starting prices, floors, tables), 4, 18
+fn open_number(items: usize, bidders: usize, start: &[u16], floors: &[u16], tables: &[i16]) -> u8
+    ensures { λ r. ⌜ r ≡ openAboveNumber items bidders (now (start .entry)) (now (floors .entry)) (now (tables .entry)) ⌝ }
 {
     if sets::outside(32, items) {
-        return refused(1);
+        return 1;
     }
     if sets::outside(64, bidders) {
-        return refused(2);
+        return 2;
     }
     if start.len() != items {
-        return refused(3);
+        return 3;
     }
     if floors.len() != items {
-        return refused(3);
+        return 3;
+    }
+    if tables.len() != bidders * 1089 {
+        return 3;
     }
     if prices::any_over(start) {
-        return refused(4);
+        return 4;
     }
     // no starting price is above 4,095 here, so a floor above 4,095 is above its starting price: one test for both halves of 18
     if prices::any_under(start, floors) {
-        return refused(18);
+        return 18;
     }
+    0
+}
+
+// the record that an opening makes
+fn opened(items: usize, bidders: usize, start: &[u16], floors: &[u16]) -> Auction
+    ensures { λ r. ⌜ r ≡ opened items bidders (now (start .entry)) (now (floors .entry)) ⌝ }
+{
     let prices = prices::in_places(start);
     let floors = prices::in_places(floors);
-    Reply {
-        number: 0,
-        next: Auction {
-            items,
-            bidders,
-            prices,
-            floors,
-            sets: [0; 64],
-            nulls: 0,
-            reported: 0,
-            phase: Phase::Rising,
-            raised: 0,
-            lowered: 0,
-        },
+    Auction {
+        items,
+        bidders,
+        prices,
+        floors,
+        sets: [0; 64],
+        nulls: 0,
+        reported: 0,
+        phase: Phase::Rising,
+        raised: 0,
+        lowered: 0,
     }
 }
 
-// opens a live auction without floors, which is one with floors of 0: 1, 2, 3, 4
-pub fn open(items: usize, bidders: usize, start: &[u16]) -> Reply
-    ensures { λ r. ⌜ r ≡ openAuction items bidders (now (start .entry)) ⌝ }
+// opens a live auction with floors, and fills the tables for all bids of 0 to 4,095: 1, 2, 3 (starting prices, floors, tables), 4, 18
+pub fn open_above(
+    items: usize,
+    bidders: usize,
+    start: &[u16],
+    floors: &[u16],
+    tables: &mut [i16],
+) -> Reply
+    ensures { λ r. ⌜ (r ≡ openAbove items bidders (now (start .entry)) (now (floors .entry)) (now (tables .entry))) × (now (tables .exit) ≡ filledBy (openAboveNumber items bidders (now (start .entry)) (now (floors .entry)) (now (tables .entry))) items bidders (now (tables .entry))) ⌝ }
+{
+    let number = open_number(items, bidders, start, floors, tables);
+    if number != 0 {
+        return refused(number);
+    }
+    tables::fill_all(tables, bidders, items);
+    Reply {
+        number: 0,
+        next: opened(items, bidders, start, floors),
+    }
+}
+
+// opens a live auction without floors, which is one with floors of 0: 1, 2, 3 (starting prices, tables), 4
+pub fn open(items: usize, bidders: usize, start: &[u16], tables: &mut [i16]) -> Reply
+    ensures { λ r. ⌜ (r ≡ openAuction items bidders (now (start .entry)) (now (tables .entry))) × (now (tables .exit) ≡ filledBy (openNumber items bidders (now (start .entry)) (now (tables .entry))) items bidders (now (tables .entry))) ⌝ }
 {
     if 32 < items {
         return refused(1);
     }
     let floors = [0u16; 32];
-    open_above(items, bidders, start, &floors[..items])
+    open_above(items, bidders, start, &floors[..items], tables)
 }
 
 impl Auction {
@@ -214,13 +254,32 @@ impl Auction {
         0
     }
 
-    // the number that turns a report down, or 0: 11, 12, 7, 13, 8
-    fn report_number(self, bidder: usize, null: bool, set: u32) -> u8
-        ensures { λ r. ⌜ r ≡ reportNumber self bidder (saying null set) ⌝ }
+    // the number that turns record and tables down before anything is asked of them, or 0: 11, 3, 11
+    fn fit_number(self, tables: &[i16]) -> u8
+        ensures { λ r. ⌜ r ≡ fitNumber self (now (tables .entry)) ⌝ }
     {
-        let number = self.clear_number();
+        if !self.well_formed() {
+            return 11;
+        }
+        if tables.len() != self.bidders * 1089 {
+            return 3;
+        }
+        if !self.tables_fit(tables) {
+            return 11;
+        }
+        0
+    }
+
+    // the number that turns a report down, or 0: 11, 3, 11, 12, 7, 13, 8, 19
+    fn report_number(self, bidder: usize, null: bool, set: u32, tables: &[i16]) -> u8
+        ensures { λ r. ⌜ r ≡ reportNumber self (now (tables .entry)) bidder (saying null set) ⌝ }
+    {
+        let number = self.fit_number(tables);
         if number != 0 {
             return number;
+        }
+        if self.is_closed() {
+            return 12;
         }
         if sets::outside(self.bidders, bidder) {
             return 7;
@@ -230,6 +289,9 @@ impl Auction {
         }
         if reports::refuses(self.items, null, set) {
             return 8;
+        }
+        if !self.is_explained(bidder - 1, null, set, tables) {
+            return 19;
         }
         0
     }
@@ -265,11 +327,11 @@ impl Auction {
         next
     }
 
-    // a bidder's report: 11, 12, 7, 13, 8
-    pub fn report(self, bidder: usize, null: bool, set: u32) -> Reply
-        ensures { λ r. ⌜ r ≡ report self bidder (saying null set) ⌝ }
+    // a bidder's report, which changes no table: 11, 3, 11, 12, 7, 13, 8, 19
+    pub fn report(self, bidder: usize, null: bool, set: u32, tables: &[i16]) -> Reply
+        ensures { λ r. ⌜ r ≡ report self (now (tables .entry)) bidder (saying null set) ⌝ }
     {
-        let number = self.report_number(bidder, null, set);
+        let number = self.report_number(bidder, null, set, tables);
         if number != 0 {
             return self.kept(number);
         }
@@ -374,7 +436,7 @@ impl Auction {
     // the rising set is empty: the falling set goes down, or the auction closes
     fn ended_low(self) -> Step
         requires { ⌜ Calm self ⌝ }
-        ensures { λ r. ⌜ (endingOf (r .ended) ≡ endAnswer self) × (r .next ≡ endNext self) ⌝ }
+        ensures { λ r. ⌜ (endingOf (r .ended) ≡ roundAnswer self) × (r .next ≡ roundNext self) ⌝ }
     {
         let falling = self.falling_set();
         if falling == 0 {
@@ -386,7 +448,7 @@ impl Auction {
     // while rising: 17 where an item of the rising set cannot go up
     fn ended_rising(self, set: u32) -> Step
         requires { ⌜ (Ready self) × (self .phase ≡ Rising) × (set ≡ risingSet self) ⌝ }
-        ensures { λ r. ⌜ (endingOf (r .ended) ≡ endAnswer self) × (r .next ≡ endNext self) ⌝ }
+        ensures { λ r. ⌜ (endingOf (r .ended) ≡ roundAnswer self) × (r .next ≡ roundNext self) ⌝ }
     {
         if set == 0 {
             return self.ended_low();
@@ -400,7 +462,7 @@ impl Auction {
     // while falling: 16 where the rising set is not empty
     fn ended_falling(self, set: u32) -> Step
         requires { ⌜ (Ready self) × (self .phase ≡ Falling) × (set ≡ risingSet self) ⌝ }
-        ensures { λ r. ⌜ (endingOf (r .ended) ≡ endAnswer self) × (r .next ≡ endNext self) ⌝ }
+        ensures { λ r. ⌜ (endingOf (r .ended) ≡ roundAnswer self) × (r .next ≡ roundNext self) ⌝ }
     {
         if set != 0 {
             return self.stopped(16);
@@ -408,17 +470,11 @@ impl Auction {
         self.ended_low()
     }
 
-    // ends the round: 11, 12, 14, then 16 or 17
-    pub fn end(self) -> Step
-        ensures { λ r. ⌜ (endingOf (r .ended) ≡ endAnswer self) × (r .next ≡ endNext self) ⌝ }
+    // the round that the reports give: 16 or 17
+    fn ended(self) -> Step
+        requires { ⌜ Ready self ⌝ }
+        ensures { λ r. ⌜ (endingOf (r .ended) ≡ roundAnswer self) × (r .next ≡ roundNext self) ⌝ }
     {
-        let number = self.clear_number();
-        if number != 0 {
-            return self.stopped(number);
-        }
-        if reports::misses(self.bidders, self.reported) {
-            return self.stopped(14);
-        }
         let set = self.rising_set();
         let phase = self.phase;
         match phase {
@@ -426,6 +482,43 @@ impl Auction {
             Phase::Falling => self.ended_falling(set),
             Phase::Closed => self.stopped(12),
         }
+    }
+
+    // the number that turns an end down before its round is looked for, or 0: 11, 3, 11, 12, 14, 19
+    fn ready_number(self, tables: &[i16]) -> u8
+        ensures { λ r. ⌜ r ≡ readyNumber self (now (tables .entry)) ⌝ }
+    {
+        let number = self.fit_number(tables);
+        if number != 0 {
+            return number;
+        }
+        if self.is_closed() {
+            return 12;
+        }
+        if reports::misses(self.bidders, self.reported) {
+            return 14;
+        }
+        if !self.all_explained(tables) {
+            return 19;
+        }
+        0
+    }
+
+    // ends the round, and narrows the tables where it moves: 11, 3, 11, 12, 14, 19, then 16 or 17
+    pub fn end(self, tables: &mut [i16]) -> Step
+        ensures { λ r. ⌜ (endingOf (r .ended) ≡ endAnswer self (now (tables .entry))) × (r .next ≡ endNext self (now (tables .entry))) × (now (tables .exit) ≡ endTables self (now (tables .entry))) ⌝ }
+    {
+        let number = self.ready_number(tables);
+        if number != 0 {
+            return self.stopped(number);
+        }
+        let step = self.ended();
+        let ended = step.ended;
+        if is_move(ended) {
+            self.narrow_all(tables);
+            return step;
+        }
+        step
     }
 
     // ---- read the close

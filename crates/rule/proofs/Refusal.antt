@@ -39,6 +39,12 @@ unfolding first
 other n k true rest ne h e = ne e
 other n k false rest ne h e = h e
 
+-- a number that is not this one: the condition fails, and a later one gives it
+pub past : (n k : ℕ) (a : Bool) (rest : List Refusal) → first (on n a ∷ rest) ≡ k → (n ≡ k → ⊥) → (a ≡ false) × (first rest ≡ k)
+unfolding first
+past n k true rest e ne = absurd (ne e)
+past n k false rest e ne = (refl, e)
+
 -- ---- counts outside 1 to the top
 
 pub under-range : (top x : ℕ) → x < 1 → outside top x ≡ true

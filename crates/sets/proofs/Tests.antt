@@ -131,6 +131,10 @@ any-make (suc n) f k l e = go (any-make n f k) (below-suc l)
 pub any-false : (n : ℕ) (f : ℕ → Bool) → ((k : ℕ) → k < n → f k ≡ false) → anyBelow n f ≡ false
 any-false n f h = is-false (anyBelow n f) (λ e. let w = any-use n f e in not-both (f (w .0)) (w .2) (h (w .0) (w .1)))
 
+-- where none passes, no one does
+pub any-none : (n : ℕ) (f : ℕ → Bool) → anyBelow n f ≡ false → (k : ℕ) → k < n → f k ≡ false
+any-none n f e k l = is-false (f k) (λ q. not-both (anyBelow n f) (any-make n f k l q) e)
+
 pub all-cong : (n : ℕ) (f g : ℕ → Bool) → ((k : ℕ) → k < n → f k ≡ g k) → allBelow n f ≡ allBelow n g
 unfolding allBelow
 all-cong zero f g h = refl

@@ -17,7 +17,7 @@ returns c =
     let r = c .before .before .args .self in
     let p = c .before .before .pre in
     handed r (c .stopped .result) (record { ended = Refused 16; next = r }) (c .stopped .ensures)
-    (ends-refused r 16 (sixteen r (p .0) (p .1) (λ z. c .before .if1 .taken (p .2 ∙ z))) (eqb-false 16 0 refl))
+    (ends-refused r 16 (sixteen r (p .1) (λ z. c .before .if1 .taken (p .2 ∙ z))) (eqb-false 16 0 refl))
 
 ended-low-requires : tie.Need-ended-low-requires
 ended-low-requires c κs = record { ready = c .before .pre .0; empty = sym (c .before .pre .2) ∙ c .if1 .left }

@@ -23,7 +23,7 @@ returns c =
     let r = c .before .before .before .args .self in
     let p = c .before .before .before .pre in
     handed r (c .closed .result) (record { ended = Closes; next = settled r closed }) (c .closed .ensures)
-    (ends-with r closed (calm r (p .ready) (p .empty)) (round-closed r (p .empty) (c .before .before .falling-set .result) (c .before .before .falling-set .ensures) (c .before .if1 .taken)))
+    (ends-with r closed (calm r (p .empty)) (round-closed r (p .empty) (c .before .before .falling-set .result) (c .before .before .falling-set .ensures) (c .before .if1 .taken)))
 
 lowered-by-requires : tie.Need-lowered-by-requires
 lowered-by-requires c κs = lowered-room (c .before .before .args .self) (c .before .before .pre .ready .formed)
@@ -35,7 +35,7 @@ returns-2 c =
     let p = c .before .before .before .pre in
     let set = c .before .before .falling-set .result in
     handed r (c .lowered-by .result) (record { ended = Moved Lowered set; next = settled r (lowered set) }) (c .lowered-by .ensures)
-    (ends-with r (lowered set) (calm r (p .ready) (p .empty)) (round-lowered r (p .empty) set (c .before .before .falling-set .ensures) (c .before .if1 .left)))
+    (ends-with r (lowered set) (calm r (p .empty)) (round-lowered r (p .empty) set (c .before .before .falling-set .ensures) (c .before .if1 .left)))
 
 pub ended-low-spec : {M : Type 1} → statement M
 ended-low-spec =

@@ -33,7 +33,7 @@ returns-2 c =
     let p = c .before .before .before .before .pre in
     let t : atTop (r .items) (r .prices) (risingSet r) ≡ true = ap (atTop (r .items) (r .prices)) (sym (p .2)) ∙ sym (c .before .before .at-top .ensures) ∙ c .before .if2 .taken in
     handed r (c .stopped .result) (record { ended = Refused 17; next = r }) (c .stopped .ensures)
-    (ends-refused r 17 (seventeen r (p .0) (p .1) t) (eqb-false 17 0 refl))
+    (ends-refused r 17 (seventeen r (p .1) t) (eqb-false 17 0 refl))
 
 raised-by-requires : tie.Need-raised-by-requires
 raised-by-requires c κs = (clauses (c .before .before .before .args .self) (c .before .before .before .pre .0 .formed) .prices, raised-room (c .before .before .before .args .self) (c .before .before .before .pre .0 .formed))
@@ -46,7 +46,7 @@ returns-3 c =
     let set = c .before .before .before .before .args .set in
     let t : atTop (r .items) (r .prices) (risingSet r) ≡ false = ap (atTop (r .items) (r .prices)) (sym (p .2)) ∙ sym (c .before .before .at-top .ensures) ∙ c .before .if2 .left in
     handed r (c .raised-by .result) (record { ended = Moved Raised set; next = settled r (raised set) }) (c .raised-by .ensures)
-    (ends-with r (raised set) (raises r (p .0) (p .1) t) (round-raised r set (p .2) (c .before .before .before .if1 .left) (p .1)))
+    (ends-with r (raised set) (raises r (p .1) t) (round-raised r set (p .2) (c .before .before .before .if1 .left) (p .1)))
 
 pub ended-rising-spec : {M : Type 1} → statement M
 ended-rising-spec =

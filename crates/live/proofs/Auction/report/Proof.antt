@@ -7,7 +7,7 @@ use Rattle.reports.specs.Report.{saying}
 use Rattle.live.specs.Calls.{withReport, reportNumber, report}
 use Rattle.live.specs.declared.Auction.{Auction}
 use Rattle.live.proofs.Formed.{formed}
-use Rattle.live.proofs.Refusing.{of-bidder, report-stands, replied, reply-kept, reply-new}
+use Rattle.live.proofs.Refusing.{accepts, of-bidder, replied, reply-kept, reply-new}
 use Rattle.live.proofs.Auction.report.Statement.{statement}
 use Rattle.live.proofs.Auction.report.Tie as tie
 
@@ -28,10 +28,10 @@ returns c =
 with-report-requires : tie.Need-with-report-requires
 with-report-requires c κs =
     let a = c .before .before .args in
-    let e = sym (c .if1 .left) ∙ c .before .report-number .ensures in
-    let most = formed (a .self) (report-stands (a .self) (a .bidder) (saying (a .null) (a .set)) e .formed) .max-bidders in
-    let b = of-bidder (a .self) (a .bidder) (saying (a .null) (a .set)) e in
-    (b .0, omega (arith, b .1, most))
+    let d = saying (a .null) (a .set) in
+    let ok = accepts (a .self) (a .tables .now) (a .bidder) d (sym (c .if1 .left) ∙ c .before .report-number .ensures) in
+    let b = of-bidder (a .self) (a .tables .now) (a .bidder) d ok in
+    (b .0, omega (arith, b .1, formed (a .self) (ok .fit .formed) .max-bidders))
 
 returns-2 : tie.Need-returns-2
 unfolding report
@@ -39,7 +39,7 @@ returns-2 c =
     let a = c .before .before .before .args in
     let d = saying (a .null) (a .set) in
     ap (λ (n : Auction). record { number = 0; next = n }) (c .with-report .ensures)
-    ∙ reply-new (reportNumber (a .self) (a .bidder) d) (withReport (a .self) (a .bidder) d) (a .self) (sym (c .before .if1 .left) ∙ c .before .before .report-number .ensures)
+    ∙ reply-new (reportNumber (a .self) (a .tables .now) (a .bidder) d) (withReport (a .self) (a .bidder) d) (a .self) (sym (c .before .if1 .left) ∙ c .before .before .report-number .ensures)
 
 pub report-spec : {M : Type 1} → statement M
 report-spec =
