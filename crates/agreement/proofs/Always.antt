@@ -1,13 +1,14 @@
--- Every call hands back a well formed record if it was given one, and an opening that is not turned down makes one: after an opening, 11 applies to no call of any
--- list, whatever is reported. The record beside an opening that is turned down gets 11. A call that is turned down leaves record and lent bytes as before.
--- Assumes nothing.
-use Prim.Native.Nat.{ℕ, zero, suc, _≤_, _<_}
+-- Every call hands back a well formed record and leaves tables that fit if it was given such, and an opening that is not turned down makes them: after an opening,
+-- 11 applies to no call of any list, whatever is reported. The record beside an opening that is turned down gets 11, whatever tables are lent. A call that is
+-- turned down leaves record, tables and lent bytes as before. Assumes nothing.
+use Prim.Native.Nat.{ℕ, zero, suc, _*_, _≤_, _<_}
 use mathlib.Core.Path.{_≡_, refl, sym, ap, _∙_, subst}
 use mathlib.Core.Bool.{Bool, true, false, _&&_, not}
 use mathlib.Core.List.{List, [], _∷_}
 use native.Mathlib.Omega.{arith}
 use native.Mathlib.Decide.{decLe}
 use lib.Dec.{eqb}
+use lib.IntN.{ℤ}
 use lib.ListN.{length, replicate, length-set, length-replicate, List·getD-eq-default}
 use borrow.Author.Tests.{eqb-true, ne-eqb}
 use borrow.Author.Tests.{not-false as not-false-is}
@@ -24,23 +25,28 @@ use Rattle.rule.proofs.Limits.{amount-beyond}
 use Rattle.lines.specs.Lines.{writtenTo}
 use Rattle.reports.specs.Report.{unfit}
 use Rattle.live.specs.Auction.{hasReported, missing, risingSet, wellFormed}
-use Rattle.live.specs.Calls.{isClosed, isFalling, isRising, atTop, openAboveNumber, zeros, opened, unopened, openedBy, openAbove, openAuction, reportNumber, withReport, report, clearNumber, cleared, clear, endNumber, roundBy, settled, gives, refused, endAnswer, endNext}
+use Rattle.live.specs.Tables.{badTables, tablesFit, anyUnexplained}
+use Rattle.live.specs.Calls.{isClosed, isFalling, isRising, atTop, openNumber, openAboveNumber, zeros, opened, unopened, openedBy, openAbove, openAuction, filledBy, reportNumber, withReport, report, clearNumber, cleared, clear, endNumber, roundBy, settled, gives, refused, endAnswer, endNext, narrowedBy, endTables}
 use Rattle.live.specs.Reading.{readNumber, sheetOf, readBytes}
 use Rattle.live.specs.declared.Auction.{Auction}
 use Rattle.live.specs.declared.Phase.the-variants.{Rising}
 use Rattle.live.specs.declared.Reply.{Reply}
-use Rattle.agreement.specs.Calls.{Call, reporting, ending, clearing, reading, ended, call, run}
-use Rattle.agreement.specs.Agreement.{numberOf, never}
+use Rattle.agreement.specs.Calls.{Call, reporting, ending, clearing, reading, ended, Held, call, run}
+use Rattle.agreement.specs.Agreement.{openedWith, numberOf, never}
 use Rattle.live.proofs.Formed.{not-over, Formed, formed, well}
-use Rattle.live.proofs.Opening.{zero-floors}
+use Rattle.live.proofs.Opening.{tables-exact, number-zero, zero-floors}
+use Rattle.agreement.proofs.Lent.{open-long, open-fit, after-fit, after-long}
 use Rattle.agreement.proofs.Keeps.{without-reports, not-closed, cleared-formed, reported-formed}
 use Rattle.agreement.proofs.Settles.{settled-formed, rising-make}
 
--- a record is sound if it is well formed; its item sets stand in 64 places and its floors in 32, as those of every record of the code do
-pub record Sound (r : Auction) : Type 0 where
-  pub placed : length (r .sets) ≡ 64
-  pub floored : length (r .floors) ≡ 32
-  pub well-formed : wellFormed r ≡ true
+-- what is held is sound if the record is well formed and the tables fit it; the record's item sets stand in 64 places and its floors in 32, as those of every
+-- record of the code do, and there is a table for each bidder
+pub record Sound (h : Held) : Type 0 where
+  pub placed : length (h .auction .sets) ≡ 64
+  pub floored : length (h .auction .floors) ≡ 32
+  pub well-formed : wellFormed (h .auction) ≡ true
+  pub long : length (h .tables) ≡ h .auction .bidders * 1089
+  pub fit : tablesFit (h .auction) (h .tables) ≡ true
 
 -- ---- calls
 
@@ -56,116 +62,159 @@ floors-after r (raised s) e = e
 floors-after r (lowered s) e = e
 floors-after r closed e = e
 
-sound-by : (x : ℕ) (new r : Auction) → (x ≡ 0 → Sound new) → Sound r → Sound (elim x [ zero ↦ new | suc j ↦ r ])
-sound-by zero new r f g = f refl
-sound-by (suc j) new r f g = g
+-- a report or a clear leaves the tables; an end may not
+sound-by : (x : ℕ) (new : Auction) (h : Held) → (x ≡ 0 → Sound (record { auction = new; tables = h .tables })) → Sound h
+    → Sound (record { auction = elim x [ zero ↦ new | suc j ↦ h .auction ]; tables = h .tables })
+sound-by zero new h f g = f refl
+sound-by (suc j) new h f g = g
+
+end-by : (x : ℕ) (new : Auction) (after : List ℤ) (h : Held) → (x ≡ 0 → Sound (record { auction = new; tables = after })) → Sound h
+    → Sound (record { auction = elim x [ zero ↦ new | suc j ↦ h .auction ]; tables = elim x [ zero ↦ after | suc j ↦ h .tables ] })
+end-by zero new after h f g = f refl
+end-by (suc j) new after h f g = g
 
 -- what it says that a call gets no number
 bidder-range : (n b : ℕ) → badBidder n b ≡ false → (1 ≤ b) × (b ≤ n)
 unfolding badBidder
 bidder-range n b e = in-range n b e
 
-module _ (r : Auction) (g : Sound r) where
+module _ (h : Held) (g : Sound h) where
+  abbrev r : Auction
+  r = h .auction
+
+  abbrev ts : List ℤ
+  ts = h .tables
+
   f : Formed r
   f = formed r (g .well-formed)
 
-  report-sound : (b : ℕ) (d : Demand) → reportNumber r b d ≡ 0 → Sound (withReport r b d)
+  report-sound : (b : ℕ) (d : Demand) → reportNumber (h .auction) (h .tables) b d ≡ 0 → Sound (record { auction = withReport (h .auction) b d; tables = h .tables })
   unfolding reportNumber withReport
   report-sound b d e =
       let q₁ = first-none 10 (not (wellFormed r)) _ e in
-      let q₂ = first-none 11 (isClosed (r .phase)) _ (q₁ .1) in
-      let q₃ = first-none 6 (badBidder (r .bidders) b) _ (q₂ .1) in
-      let q₄ = first-none 12 (hasReported r b) _ (q₃ .1) in
-      let q₅ = first-none 7 (unfit (r .items) d) [] (q₄ .1) in
-      let range = bidder-range (r .bidders) b (q₃ .0) in
+      let q₂ = first-none 2 (badTables (r .bidders) ts) _ (q₁ .1) in
+      let q₃ = first-none 10 (not (tablesFit r ts)) _ (q₂ .1) in
+      let q₄ = first-none 11 (isClosed (r .phase)) _ (q₃ .1) in
+      let q₅ = first-none 6 (badBidder (r .bidders) b) _ (q₄ .1) in
+      let q₆ = first-none 12 (hasReported r b) _ (q₅ .1) in
+      let q₇ = first-none 7 (unfit (r .items) d) _ (q₆ .1) in
+      let range = bidder-range (r .bidders) b (q₅ .0) in
       record {
         placed = length-set (r .sets) _ (d .items) ∙ g .placed;
         floored = g .floored;
-        well-formed = well (withReport r b d) (reported-formed r (g .placed) f b d (range .0) (range .1) (q₄ .0) (q₅ .0) (q₂ .0));
+        well-formed = well (withReport r b d) (reported-formed r (g .placed) f b d (range .0) (range .1) (q₆ .0) (q₇ .0) (q₄ .0));
+        long = g .long;
+        fit = unfold tablesFit in g .fit;
       }
 
-  clear-sound : clearNumber r ≡ 0 → Sound (cleared r)
+  clear-sound : clearNumber (h .auction) ≡ 0 → Sound (record { auction = cleared (h .auction); tables = h .tables })
   unfolding clearNumber cleared
   clear-sound e =
       let q₁ = first-none 10 (not (wellFormed r)) _ e in
       let q₂ = first-none 11 (isClosed (r .phase)) [] (q₁ .1) in
-      record { placed = length-replicate {A = ℕ} 64 0; floored = g .floored; well-formed = well (cleared r) (cleared-formed r (q₂ .0) f) }
+      record {
+        placed = length-replicate {A = ℕ} 64 0;
+        floored = g .floored;
+        well-formed = well (cleared r) (cleared-formed r (q₂ .0) f);
+        long = g .long;
+        fit = unfold tablesFit in g .fit;
+      }
 
-  end-sound : endNumber r ≡ 0 → Sound (settled r (roundBy r))
+  end-sound : endNumber (h .auction) (h .tables) ≡ 0
+      → Sound (record { auction = settled (h .auction) (roundBy (h .auction)); tables = narrowedBy (h .auction) (h .tables) (roundBy (h .auction)) })
   unfolding endNumber
   end-sound e =
       let q₁ = first-none 10 (not (wellFormed r)) _ e in
-      let q₂ = first-none 11 (isClosed (r .phase)) _ (q₁ .1) in
-      let q₃ = first-none 13 (missing r) _ (q₂ .1) in
-      let q₄ = first-none 15 (isFalling (r .phase) && not (eqb (risingSet r) 0)) _ (q₃ .1) in
-      let q₅ = first-none 16 (isRising (r .phase) && atTop (r .items) (r .prices) (risingSet r)) [] (q₄ .1) in
+      let q₂ = first-none 2 (badTables (r .bidders) ts) _ (q₁ .1) in
+      let q₃ = first-none 10 (not (tablesFit r ts)) _ (q₂ .1) in
+      let q₄ = first-none 11 (isClosed (r .phase)) _ (q₃ .1) in
+      let q₅ = first-none 13 (missing r) _ (q₄ .1) in
+      let q₆ = first-none 18 (anyUnexplained r ts) _ (q₅ .1) in
+      let q₇ = first-none 15 (isFalling (r .phase) && not (eqb (risingSet r) 0)) _ (q₆ .1) in
+      let q₈ = first-none 16 (isRising (r .phase) && atTop (r .items) (r .prices) (risingSet r)) [] (q₇ .1) in
       record {
         placed = sets-after r (roundBy r) (g .placed);
         floored = floors-after r (roundBy r) (g .floored);
-        well-formed = well (settled r (roundBy r)) (settled-formed r f (g .floored) (q₂ .0) (q₃ .0) (q₄ .0) (q₅ .0));
+        well-formed = well (settled r (roundBy r)) (settled-formed r f (g .floored) (q₄ .0) (q₅ .0) (q₇ .0) (q₈ .0));
+        long = after-long r ts (g .long) (roundBy r);
+        fit = after-fit r ts f (g .fit) (q₆ .0) (roundBy r);
       }
 
-  pub keeps : (c : Call) → Sound (call r c .next)
-  unfolding call report clear endNext
-  keeps (reporting b d) = sound-by (reportNumber r b d) (withReport r b d) r (report-sound b d) g
-  keeps ending = sound-by (endNumber r) (settled r (roundBy r)) r end-sound g
-  keeps clearing = sound-by (clearNumber r) (cleared r) r clear-sound g
+  pub keeps : (c : Call) → Sound (call h c .next)
+  unfolding call report clear endNext endTables
+  keeps (reporting b d) = sound-by (reportNumber r ts b d) (withReport r b d) h (report-sound b d) g
+  keeps ending = end-by (endNumber r ts) (settled r (roundBy r)) (narrowedBy r ts (roundBy r)) h end-sound g
+  keeps clearing = sound-by (clearNumber r) (cleared r) h clear-sound g
   keeps (reading out) = g
+
+  -- 3 does not apply to the tables
+  pub not-three : badTables (h .auction .bidders) (h .tables) ≡ false
+  not-three = tables-exact (r .bidders) ts (g .long)
 
 -- ---- lists of calls
 
-pub keeps-all : (r : Auction) → Sound r → (calls : List Call) → Sound (run r calls .last)
+pub keeps-all : (h : Held) → Sound h → (calls : List Call) → Sound (run h calls .last)
 unfolding run
-keeps-all r g [] = g
-keeps-all r g (c ∷ calls) = keeps-all (call r c .next) (keeps r g c) calls
+keeps-all h g [] = g
+keeps-all h g (c ∷ calls) = keeps-all (call h c .next) (keeps h g c) calls
 
 none-eleven : first [] ≡ 11 → ⊥
 unfolding first
 none-eleven e = omega arith
 
-ended-number : (x : ℕ) (y : Round) → numberOf (ended (elim x [ zero ↦ gives y | suc j ↦ refused (suc j) ])) ≡ x
+pub ended-number : (x : ℕ) (y : Round) → numberOf (ended (elim x [ zero ↦ gives y | suc j ↦ refused (suc j) ])) ≡ x
 unfolding numberOf
 ended-number zero y = refl
 ended-number (suc j) y = refl
 
-module _ (r : Auction) (w : wellFormed r ≡ true) where
-  eleven : (rest : List Refusal) → (first rest ≡ 11 → ⊥) → first (on 11 (not (wellFormed r)) ∷ rest) ≡ 11 → ⊥
-  eleven rest h e = h (sym (passed 11 (not (wellFormed r)) rest (ap not w)) ∙ e)
+module _ (h : Held) (w : wellFormed (h .auction) ≡ true) (fit : tablesFit (h .auction) (h .tables) ≡ true) where
+  eleven : (rest : List Refusal) → (first rest ≡ 11 → ⊥) → first (on 11 (not (wellFormed (h .auction))) ∷ rest) ≡ 11 → ⊥
+  eleven rest ne e = ne (sym (passed 11 (not (wellFormed (h .auction))) rest (ap not w)) ∙ e)
 
-  pub not-eleven : (c : Call) → numberOf (call r c .answer) ≡ 11 → ⊥
+  -- 3 and 11 of the tables, behind it
+  tables-eleven : (rest : List Refusal) → (first rest ≡ 11 → ⊥)
+      → first (on 3 (badTables (h .auction .bidders) (h .tables)) ∷ on 11 (not (tablesFit (h .auction) (h .tables))) ∷ rest) ≡ 11 → ⊥
+  tables-eleven rest ne =
+      other 3 11 (badTables (h .auction .bidders) (h .tables)) (on 11 (not (tablesFit (h .auction) (h .tables))) ∷ rest) (λ q. omega arith)
+      (λ e. ne (sym (passed 11 (not (tablesFit (h .auction) (h .tables))) rest (ap not fit)) ∙ e))
+
+  pub not-eleven : (c : Call) → numberOf (call h c .answer) ≡ 11 → ⊥
   unfolding call report clear endAnswer reportNumber clearNumber endNumber readNumber numberOf
   not-eleven (reporting b d) e =
-      eleven _ (other 12 11 _ _ (λ q. omega arith) (other 7 11 _ _ (λ q. omega arith) (other 13 11 _ _ (λ q. omega arith) (other 8 11 _ _ (λ q. omega arith) none-eleven))))
+      eleven _ (tables-eleven _ (other 12 11 _ _ (λ q. omega arith) (other 7 11 _ _ (λ q. omega arith) (other 13 11 _ _ (λ q. omega arith)
+      (other 8 11 _ _ (λ q. omega arith) (other 19 11 _ _ (λ q. omega arith) none-eleven))))))
       e
   not-eleven ending e =
-      eleven _ (other 12 11 _ _ (λ q. omega arith) (other 14 11 _ _ (λ q. omega arith) (other 16 11 _ _ (λ q. omega arith) (other 17 11 _ _ (λ q. omega arith) none-eleven))))
-      (sym (ended-number (endNumber r) (roundBy r)) ∙ e)
+      eleven _ (tables-eleven _ (other 12 11 _ _ (λ q. omega arith) (other 14 11 _ _ (λ q. omega arith) (other 19 11 _ _ (λ q. omega arith)
+      (other 16 11 _ _ (λ q. omega arith) (other 17 11 _ _ (λ q. omega arith) none-eleven))))))
+      (sym (ended-number (endNumber (h .auction) (h .tables)) (roundBy (h .auction))) ∙ e)
   not-eleven clearing e = eleven _ (other 12 11 _ _ (λ q. omega arith) none-eleven) e
   not-eleven (reading out) e = eleven _ (other 15 11 _ _ (λ q. omega arith) (other 3 11 _ _ (λ q. omega arith) none-eleven)) e
 
-pub never-eleven : (r : Auction) → Sound r → (calls : List Call) → never 11 (run r calls .answers) ≡ true
+pub never-eleven : (h : Held) → Sound h → (calls : List Call) → never 11 (run h calls .answers) ≡ true
 unfolding run never
-never-eleven r g [] = refl
-never-eleven r g (c ∷ calls) =
-    and-both (not (eqb (numberOf (call r c .answer)) 11)) (never 11 (run (call r c .next) calls .answers))
-    (ap not (ne-eqb (numberOf (call r c .answer)) 11 (not-eleven r (g .well-formed) c))) (never-eleven (call r c .next) (keeps r g c) calls)
+never-eleven h g [] = refl
+never-eleven h g (c ∷ calls) =
+    and-both (not (eqb (numberOf (call h c .answer)) 11)) (never 11 (run (call h c .next) calls .answers))
+    (ap not (ne-eqb (numberOf (call h c .answer)) 11 (not-eleven h (g .well-formed) (g .fit) c))) (never-eleven (call h c .next) (keeps h g c) calls)
 
 -- ---- opening
 
-module _ (m n : ℕ) (start floors : List ℕ) where
-  opened-formed : openAboveNumber m n start floors ≡ 0 → Formed (opened m n start floors)
+module _ (m n : ℕ) (start floors : List ℕ) (lent : List ℤ) where
+  opened-formed : openAboveNumber m n start floors lent ≡ 0 → Formed (opened m n start floors)
   unfolding openAboveNumber opened
   opened-formed e =
       let q₁ = first-none 0 (badItems m) _ e in
       let q₂ = first-none 1 (badBidders n) _ (q₁ .1) in
       let q₃ = first-none 2 (badLength start m) _ (q₂ .1) in
       let q₄ = first-none 2 (badLength floors m) _ (q₃ .1) in
-      let q₅ = first-none 3 (anyOver start) _ (q₄ .1) in
-      let q₆ = first-none 17 (badFloors start floors) [] (q₅ .1) in
+      let q₅ = first-none 2 (badTables n lent) _ (q₄ .1) in
+      let q₆ = first-none 3 (anyOver start) _ (q₅ .1) in
+      let q₇ = first-none 17 (badFloors start floors) [] (q₆ .1) in
       let items : (1 ≤ m) × (m ≤ 32) = in-range 32 m (unfold badItems in q₁ .0) in
       let bidders : (1 ≤ n) × (n ≤ 64) = in-range 64 n (unfold badBidders in q₂ .0) in
-      without-reports (opened m n start floors) refl refl refl (items .0) (items .1) (bidders .0) (bidders .1) (range (q₅ .0)) (past (exact (q₃ .0))) (low (q₆ .0))
-      (rising-make (opened m n start floors) refl (omega (arith, low-sum (q₆ .0)))) (not-closed Rising (opened m n start floors) refl)
+      without-reports (opened m n start floors) refl refl refl (items .0) (items .1) (bidders .0) (bidders .1) (range (q₆ .0)) (past (exact (q₃ .0))) (low (q₇ .0))
+      (rising-make (opened m n start floors) refl (omega (arith, low-sum (q₇ .0)))) (not-closed Rising (opened m n start floors) refl)
     where
       exact : badLength start m ≡ false → length start ≡ m
       exact e = eqb-true (length start) m (not-false-is (eqb (length start) m) (unfold badLength in e))
@@ -192,16 +241,19 @@ module _ (m n : ℕ) (start floors : List ℕ) where
       low-sum : badFloors start floors ≡ false → priceSum m (places 32 floors) ≤ priceSum m (places 32 start)
       low-sum e = unfold priceSum in sum-mono m (λ k. amount (places 32 floors) (suc k)) (λ k. amount (places 32 start) (suc k)) (λ k l. low e (suc k))
 
-  pub above-sound : openAbove m n start floors .number ≡ 0 → Sound (openAbove m n start floors .next)
-  unfolding openAbove openedBy
-  above-sound e = go (openAboveNumber m n start floors) refl e
+  pub above-sound : openAbove m n start floors lent .number ≡ 0 → Sound (openedWith m n start floors lent)
+  unfolding openAbove openedBy openedWith filledBy
+  above-sound e = go (openAboveNumber m n start floors lent) refl e
     where
-      go : (x : ℕ) → openAboveNumber m n start floors ≡ x → openedBy x m n start floors .number ≡ 0 → Sound (openedBy x m n start floors .next)
+      go : (x : ℕ) → openAboveNumber m n start floors lent ≡ x → openedBy x m n start floors .number ≡ 0
+          → Sound (record { auction = openedBy x m n start floors .next; tables = filledBy x m n lent })
       go zero q h =
           record {
             placed = unfold opened in length-replicate {A = ℕ} 64 0;
             floored = unfold opened in places-length 32 floors;
             well-formed = well (opened m n start floors) (opened-formed q);
+            long = unfold opened in open-long m n;
+            fit = unfold opened in open-fit (opened m n start floors) (opened-formed q .max-items);
           }
       go (suc j) q h = absurd (let z : suc j ≡ 0 = unfold unopened in h in omega arith)
 
@@ -214,42 +266,72 @@ zeros-malformed = go (wellFormed zeros) refl
     go false e = e
     go true e = absurd (let few : 1 ≤ zeros .items = formed zeros e .some-item in let z : zeros .items ≡ 0 = unfold zeros in refl in omega arith)
 
-pub zeros-eleven : (c : Call) → numberOf (call zeros c .answer) ≡ 11
+pub zeros-eleven : (ts : List ℤ) (c : Call) → numberOf (call (record { auction = zeros; tables = ts }) c .answer) ≡ 11
 unfolding call report clear endAnswer reportNumber clearNumber endNumber readNumber numberOf
-zeros-eleven (reporting b d) = given 11 (not (wellFormed zeros)) _ (ap not zeros-malformed)
-zeros-eleven ending = ended-number (endNumber zeros) (roundBy zeros) ∙ given 11 (not (wellFormed zeros)) _ (ap not zeros-malformed)
-zeros-eleven clearing = given 11 (not (wellFormed zeros)) _ (ap not zeros-malformed)
-zeros-eleven (reading out) = given 11 (not (wellFormed zeros)) _ (ap not zeros-malformed)
+zeros-eleven ts (reporting b d) = given 11 (not (wellFormed zeros)) _ (ap not zeros-malformed)
+zeros-eleven ts ending = ended-number (endNumber zeros ts) (roundBy zeros) ∙ given 11 (not (wellFormed zeros)) _ (ap not zeros-malformed)
+zeros-eleven ts clearing = given 11 (not (wellFormed zeros)) _ (ap not zeros-malformed)
+zeros-eleven ts (reading out) = given 11 (not (wellFormed zeros)) _ (ap not zeros-malformed)
 
-pub above-eleven : (m n : ℕ) (start floors : List ℕ) → (openAbove m n start floors .number ≡ 0 → ⊥) → (c : Call) → numberOf (call (openAbove m n start floors .next) c .answer) ≡ 11
+pub above-eleven : (m n : ℕ) (start floors : List ℕ) (lent : List ℤ) → (openAbove m n start floors lent .number ≡ 0 → ⊥) → (ts : List ℤ) (c : Call)
+    → numberOf (call (record { auction = openAbove m n start floors lent .next; tables = ts }) c .answer) ≡ 11
 unfolding openAbove openedBy
-above-eleven m n start floors ne c = go (openAboveNumber m n start floors) ne
+above-eleven m n start floors lent ne ts c = go (openAboveNumber m n start floors lent) ne
   where
-    go : (x : ℕ) → (openedBy x m n start floors .number ≡ 0 → ⊥) → numberOf (call (openedBy x m n start floors .next) c .answer) ≡ 11
+    go : (x : ℕ) → (openedBy x m n start floors .number ≡ 0 → ⊥) → numberOf (call (record { auction = openedBy x m n start floors .next; tables = ts }) c .answer) ≡ 11
     go zero h = absurd (h refl)
-    go (suc j) h = unfold unopened in zeros-eleven c
+    go (suc j) h = unfold unopened in zeros-eleven ts c
 
 -- ---- an opening without floors is one with floors of 0
 
-pub open-sound : (m n : ℕ) (start : List ℕ) → openAuction m n start .number ≡ 0 → Sound (openAuction m n start .next)
-open-sound m n start = subst (λ (x : Reply). x .number ≡ 0 → Sound (x .next)) (zero-floors m n start) (above-sound m n start (replicate m 0))
+-- what is held after an opening without floors
+abbrev pub openedFrom : (items bidders : ℕ) (start : List ℕ) (lent : List ℤ) → Held
+openedFrom m n start lent = record { auction = openAuction m n start lent .next; tables = filledBy (openNumber m n start lent) m n lent }
 
-pub refused-eleven : (m n : ℕ) (start : List ℕ) → (openAuction m n start .number ≡ 0 → ⊥) → (c : Call) → numberOf (call (openAuction m n start .next) c .answer) ≡ 11
-refused-eleven m n start =
-    subst (λ (x : Reply). (x .number ≡ 0 → ⊥) → (c : Call) → numberOf (call (x .next) c .answer) ≡ 11) (zero-floors m n start) (above-eleven m n start (replicate m 0))
+held-zero : (m n : ℕ) (start : List ℕ) (lent : List ℤ) → openedWith m n start (replicate m 0) lent ≡ openedFrom m n start lent
+unfolding openedWith
+held-zero m n start lent =
+    ap (λ (x : Reply). record { auction = x .next; tables = filledBy (openAboveNumber m n start (replicate m 0) lent) m n lent }) (zero-floors m n start lent)
+    ∙ ap (λ (x : ℕ). record { auction = openAuction m n start lent .next; tables = filledBy x m n lent }) (number-zero m n start lent)
 
--- ---- a call that is turned down hands back the record and the lent bytes as before
+pub open-sound : (m n : ℕ) (start : List ℕ) (lent : List ℤ) → openAuction m n start lent .number ≡ 0 → Sound (openedFrom m n start lent)
+open-sound m n start lent e =
+    subst Sound (held-zero m n start lent) (above-sound m n start (replicate m 0) lent (ap (λ (x : Reply). x .number) (zero-floors m n start lent) ∙ e))
 
-by-number : (x : ℕ) (new r : Auction) → (x ≡ 0 → ⊥) → elim x [ zero ↦ new | suc j ↦ r ] ≡ r
-by-number zero new r h = absurd (h refl)
-by-number (suc j) new r h = refl
+pub refused-eleven : (m n : ℕ) (start : List ℕ) (lent : List ℤ) → (openAuction m n start lent .number ≡ 0 → ⊥) → (ts : List ℤ) (c : Call)
+    → numberOf (call (record { auction = openAuction m n start lent .next; tables = ts }) c .answer) ≡ 11
+refused-eleven m n start lent =
+    subst (λ (x : Reply). (x .number ≡ 0 → ⊥) → (ts : List ℤ) (c : Call) → numberOf (call (record { auction = x .next; tables = ts }) c .answer) ≡ 11) (zero-floors m n start lent)
+    (above-eleven m n start (replicate m 0) lent)
 
-pub as-before : (r : Auction) (c : Call) → (numberOf (call r c .answer) ≡ 0 → ⊥) → call r c .next ≡ r
-unfolding call report clear endAnswer endNext numberOf
-as-before r (reporting b d) h = by-number (reportNumber r b d) (withReport r b d) r h
-as-before r ending h = by-number (endNumber r) (settled r (roundBy r)) r (λ e. h (ended-number (endNumber r) (roundBy r) ∙ e))
-as-before r clearing h = by-number (clearNumber r) (cleared r) r h
-as-before r (reading out) h = refl
+-- an opening that is turned down leaves the lent tables as before
+pub lent-before : (m n : ℕ) (start floors : List ℕ) (lent : List ℤ) → (openAbove m n start floors lent .number ≡ 0 → ⊥) → openedWith m n start floors lent .tables ≡ lent
+unfolding openAbove openedBy openedWith filledBy
+lent-before m n start floors lent ne = go (openAboveNumber m n start floors lent) ne
+  where
+    go : (x : ℕ) → (openedBy x m n start floors .number ≡ 0 → ⊥) → filledBy x m n lent ≡ lent
+    go zero h = absurd (h refl)
+    go (suc j) h = refl
+
+-- ---- a call that is turned down hands back record, tables and lent bytes as before
+
+by-number : (x : ℕ) (new : Auction) (after : List ℤ) (h : Held) → (x ≡ 0 → ⊥)
+    → record { auction = elim x [ zero ↦ new | suc j ↦ h .auction ]; tables = elim x [ zero ↦ after | suc j ↦ h .tables ] } ≡ h
+by-number zero new after h ne = absurd (ne refl)
+by-number (suc j) new after h ne = refl
+
+told-number : (x : ℕ) (new : Auction) (h : Held) → (x ≡ 0 → ⊥) → record { auction = elim x [ zero ↦ new | suc j ↦ h .auction ]; tables = h .tables } ≡ h
+told-number zero new h ne = absurd (ne refl)
+told-number (suc j) new h ne = refl
+
+pub as-before : (h : Held) (c : Call) → (numberOf (call h c .answer) ≡ 0 → ⊥) → call h c .next ≡ h
+unfolding call report clear endAnswer endNext endTables numberOf
+as-before h (reporting b d) ne = told-number (reportNumber (h .auction) (h .tables) b d) (withReport (h .auction) b d) h ne
+as-before h ending ne =
+    by-number (endNumber (h .auction) (h .tables)) (settled (h .auction) (roundBy (h .auction))) (narrowedBy (h .auction) (h .tables) (roundBy (h .auction))) h
+    (λ e. ne (ended-number (endNumber (h .auction) (h .tables)) (roundBy (h .auction)) ∙ e))
+as-before h clearing ne = told-number (clearNumber (h .auction)) (cleared (h .auction)) h ne
+as-before h (reading out) ne = refl
 
 pub bytes-before : (r : Auction) (out : List ℕ) → (readNumber r out ≡ 0 → ⊥) → readBytes r out ≡ out
 unfolding readBytes

@@ -47,13 +47,13 @@ module _ (s : Sheet) (t : Machine) where
   turned-still zero = tt
   turned-still (suc j) = still (λ rest. refl) refl
 
-  rounds-next : (r : Round) → t .hasClosed ≡ false → rounds (next t r) ≡ suc (t .moves)
+  rounds-next : (r : Round) → t .hasClosed ≡ false → rounds (next s t r) ≡ suc (t .moves)
   unfolding next
   rounds-next (raised x) o = omega (arith, ap toNat o)
   rounds-next (lowered x) o = omega (arith, ap toNat o)
   rounds-next closed o = omega arith
 
-  gives-one : t .hasClosed ≡ false → Counts s t (ended (gives (roundOf s (t .moves)))) (next t (roundOf s (t .moves)))
+  gives-one : t .hasClosed ≡ false → Counts s t (ended (gives (roundOf s (t .moves)))) (next s t (roundOf s (t .moves)))
   unfolding roundsOf
   gives-one o =
       let e : t .moves ≡ rounds t = omega (arith, ap toNat o) in
@@ -68,7 +68,7 @@ module _ (s : Sheet) (t : Machine) where
     where
       go : (b : Bool) → not (t .hasClosed) && demandsStand s t ≡ b
           → CountsOf s t (elim b [
-            | true ↦ answers (ended (gives (roundOf s (t .moves)))) (next t (roundOf s (t .moves)))
+            | true ↦ answers (ended (gives (roundOf s (t .moves)))) (next s t (roundOf s (t .moves)))
             | false ↦ turned (machineEndNumber s t) t
           ])
       go true e = gives-one (not-true-is (t .hasClosed) (and-left (not (t .hasClosed)) (demandsStand s t) e))
@@ -112,10 +112,10 @@ module _ (s : Sheet) where
       go rest leaves k = tt
       go rest (answers a u) k = grow t u a (machineRun s u calls) k (rest u)
 
-  pub rounds-are : (calls : List Call) (theirs : List Answer) (t : Machine) → machineRun s begin calls ≡ ran theirs t
+  pub rounds-are : (calls : List Call) (theirs : List Answer) (t : Machine) → machineRun s (begin s) calls ≡ ran theirs t
       → roundsOf theirs ≡ tabulate (t .moves + toNat (t .hasClosed)) (roundOf s) 0
   rounds-are calls theirs t e =
-      let h = subst (CountsRan s begin) e (counts-all begin calls) in
-      let z : rounds begin ≡ 0 = unfold begin in refl in
+      let h = subst (CountsRan s (begin s)) e (counts-all (begin s) calls) in
+      let z : rounds (begin s) ≡ 0 = unfold begin in refl in
       let many : h .many ≡ rounds t = omega (arith, h .counted, z) in
       h .in-order ∙ ap (tabulate (h .many) (roundOf s)) z ∙ ap (λ (k : ℕ). tabulate k (roundOf s) 0) many

@@ -22,17 +22,19 @@ use Rattle.rule.proofs.Limits.{Limits}
 use Rattle.rule.proofs.Refusal.{passed, first-nil}
 use Rattle.prices.proofs.Moving.{raise-places, lower-places}
 use Rattle.live.specs.Auction.{reportsOf, missing, itemsAbove, risingSet, wellFormed}
-use Rattle.live.specs.Calls.{isClosed, isFalling, isRising, atTop, endNumber, ruled, roundBy, settled, gives, refused, endAnswer, endNext}
+use Rattle.live.specs.Tables.{badTables, tablesFit, anyUnexplained, narrowedTables}
+use Rattle.live.specs.Calls.{isClosed, isFalling, isRising, atTop, endNumber, ruled, roundBy, settled, gives, refused, endAnswer, endNext, narrowedBy, endTables}
 use Rattle.live.specs.declared.Phase.{Phase}
 use Rattle.live.specs.declared.Phase.the-variants.{Rising, Falling}
 use Rattle.live.proofs.Parts.{by-parts}
 use Rattle.agreement.specs.Calls.{ending, ended, Answered, call}
-use Rattle.agreement.specs.Machine.{Machine, none, at, phaseOf, phase, saidAll, isMissing, demandsStand, answers, machineEndNumber, next, turned, machineEnd, machine}
-use Rattle.agreement.specs.Agreement.{standsFor}
+use Rattle.agreement.specs.Machine.{Machine, none, at, phaseOf, phase, said, saidAll, isMissing, demandsStand, answers, unexplainedBy, machineEndNumber, narrowedOn, next, turned, machineEnd, machine}
+use Rattle.agreement.specs.Agreement.{standsFor, tablesOf, heldFor}
 use Rattle.agreement.proofs.Along.{raised-closed, lowered-closed, step-by, rising-at, moved-small, phase-is, long-along, falling-calm}
 use Rattle.agreement.proofs.Numbers.{first-same}
 use Rattle.agreement.proofs.Standing.{said-demands, none-missing, closed-stands, reports-is, missing-is, above-is, rising-is, top-is}
-use Rattle.agreement.proofs.Follows.{Good, Follows, no-nulls, no-reported, no-sets}
+use Rattle.agreement.proofs.Tabled.{not-bad, tables-fit, nineteen-all, not-nineteen, moved-tabled, narrowed-is}
+use Rattle.agreement.proofs.Follows.{Good, held-by, Follows, no-nulls, no-reported, no-sets}
 
 -- ---- phases
 
@@ -79,6 +81,9 @@ module _ (s : Sheet) (lim : Limits s) (c : Closing s) (t : Machine) (g : Good s 
   abbrev found : ℕ
   found = excessDemand m (saidAll s t)
 
+  abbrev unknown : Bool
+  unknown = anyBelow (length (s .bids)) λ k. unexplainedBy s t k (said (t .standing (suc k)))
+
   sixteen : isFalling (standsFor s t .phase) && not (eqb (risingSet (standsFor s t)) 0) ≡ isFalling (phase s t) && not (eqb found 0)
   sixteen =
       ap (λ (x : Phase). isFalling x && not (eqb (risingSet (standsFor s t)) 0)) phase-now ∙ ap (λ (x : ℕ). isFalling (phase s t) && not (eqb x 0)) (rising-is s t lim)
@@ -91,15 +96,18 @@ module _ (s : Sheet) (lim : Limits s) (c : Closing s) (t : Machine) (g : Good s 
       ∙ ap (λ (x : ℕ). isRising (phase s t) && atTop m (standsFor s t .prices) x) (rising-is s t lim)
       ∙ ap (λ (x : Bool). isRising (phase s t) && x) (top-is s t lim found)
 
-  pub end-number : endNumber (standsFor s t) ≡ machineEndNumber s t
+  pub end-number : endNumber (standsFor s t) (tablesOf s t) ≡ machineEndNumber s t
   unfolding endNumber machineEndNumber
   end-number =
       passed 11 (not (wellFormed (standsFor s t))) _ (ap not w)
+      ∙ passed 3 (badTables (standsFor s t .bidders) (tablesOf s t)) _ (not-bad s t (g .tabled))
+      ∙ passed 11 (not (tablesFit (standsFor s t) (tablesOf s t))) _ (ap not (tables-fit s t (g .tabled)))
       ∙ first-same 12 (isClosed (standsFor s t .phase)) (t .hasClosed) _ _ (closed-stands s t)
       (λ e. first-same 14 (missing (standsFor s t)) (isMissing s t) _ _ (missing-is s t lim)
+      (λ e. first-same 19 (anyUnexplained (standsFor s t) (tablesOf s t)) unknown _ _ (nineteen-all s t (g .tabled) lim)
       (λ e. first-same 16 (isFalling (standsFor s t .phase) && not (eqb (risingSet (standsFor s t)) 0)) (isFalling (phase s t) && not (eqb found 0)) _ _ sixteen
       (λ e. first-same 17 (isRising (standsFor s t .phase) && atTop (standsFor s t .items) (standsFor s t .prices) (risingSet (standsFor s t)))
-      (isRising (phase s t) && atTop m (at s t .prices) found) _ _ seventeen (λ e. refl))))
+      (isRising (phase s t) && atTop m (at s t .prices) found) _ _ seventeen (λ e. refl)))))
 
   calm-now : phaseAfter (now .downs) ≡ falling → excessDemandAt s (at s t .prices) ≡ 0
   unfolding at
@@ -139,10 +147,11 @@ module _ (s : Sheet) (lim : Limits s) (c : Closing s) (t : Machine) (g : Good s 
   no-number : t .hasClosed ≡ false → demandsStand s t ≡ true → machineEndNumber s t ≡ 0
   unfolding machineEndNumber
   no-number o h =
-      passed 12 (t .hasClosed) _ o ∙ passed 14 (isMissing s t) _ (none-missing s t h) ∙ passed 16 (isFalling (phase s t) && not (eqb found 0)) _ (not-sixteen h)
+      passed 12 (t .hasClosed) _ o ∙ passed 14 (isMissing s t) _ (none-missing s t h) ∙ passed 19 unknown _ (not-nineteen s t (g .tabled) lim h)
+      ∙ passed 16 (isFalling (phase s t) && not (eqb found 0)) _ (not-sixteen h)
       ∙ passed 17 (isRising (phase s t) && atTop m (at s t .prices) found) [] (not-seventeen h) ∙ first-nil
 
-  pub not-refused : t .hasClosed ≡ false → demandsStand s t ≡ true → endNumber (standsFor s t) ≡ 0
+  pub not-refused : t .hasClosed ≡ false → demandsStand s t ≡ true → endNumber (standsFor s t) (tablesOf s t) ≡ 0
   not-refused o h = end-number ∙ no-number o h
 
   -- ---- the round
@@ -163,16 +172,21 @@ module _ (s : Sheet) (lim : Limits s) (c : Closing s) (t : Machine) (g : Good s 
   -- ---- the record after it
 
   abbrev moved-on : Machine
-  moved-on = record { moves = suc (t .moves); hasClosed = t .hasClosed; standing = λ i. none }
+  moved-on = record { moves = suc (t .moves); hasClosed = t .hasClosed; standing = λ i. none; tables = narrowedOn s t }
 
   abbrev closed-now : Machine
-  closed-now = record { moves = t .moves; hasClosed = true; standing = t .standing }
+  closed-now = record { moves = t .moves; hasClosed = true; standing = t .standing; tables = t .tables }
 
   good-moved : t .hasClosed ≡ false → (roundOf s (t .moves) ≡ closed → ⊥) → Good s moved-on
-  good-moved o ne = record { not-before = and-below (λ k. roundOf s k ≡ closed → ⊥) ne (g .not-before); at-close = λ h. absurd (not-both (t .hasClosed) h o) }
+  good-moved o ne =
+      record {
+        not-before = and-below (λ k. roundOf s k ≡ closed → ⊥) ne (g .not-before);
+        at-close = λ h. absurd (not-both (t .hasClosed) h o);
+        tabled = moved-tabled s t (g .tabled) lim c;
+      }
 
   good-closed : demandsStand s t ≡ true → roundOf s (t .moves) ≡ closed → Good s closed-now
-  good-closed h e = record { not-before = g .not-before; at-close = λ q. (unfold demandsStand at in h, e) }
+  good-closed h e = record { not-before = g .not-before; at-close = λ q. (unfold demandsStand at in h, e); tabled = g .tabled }
 
   -- the record of a move, from the path's state after it
   moved-record : (q : State) (p : List ℕ) (ph : Phase) → path s (suc (t .moves)) ≡ q → t .hasClosed ≡ false → p ≡ places 32 (q .prices) → ph ≡ phaseOf false (q .downs)
@@ -214,46 +228,69 @@ module _ (s : Sheet) (lim : Limits s) (c : Closing s) (t : Machine) (g : Good s 
   unfolding settled standsFor at phase phaseOf
   closed-record = refl
 
-  settles : (r : Round) → t .hasClosed ≡ false → demandsStand s t ≡ true → roundOf s (t .moves) ≡ r → (settled (standsFor s t) r ≡ standsFor s (next t r)) × Good s (next t r)
-  unfolding next
-  settles (raised x) o h e = (raised-record x o e, good-moved o (λ q. raised-closed x (sym e ∙ q)))
-  settles (lowered x) o h e = (lowered-record x o e, good-moved o (λ q. lowered-closed x (sym e ∙ q)))
-  settles closed o h e = (closed-record, good-closed h e)
+  -- and the tables after it
+  moved-tables : demandsStand s t ≡ true → narrowedTables (standsFor s t) (tablesOf s t) ≡ tablesOf s moved-on
+  unfolding tablesOf
+  moved-tables h = narrowed-is s t (g .tabled) lim h
+
+  -- what is held after it is the machine's next state
+  record Settles (r : Round) : Type 0 where
+    auction : settled (standsFor s t) r ≡ standsFor s (next s t r)
+    tables : narrowedBy (standsFor s t) (tablesOf s t) r ≡ tablesOf s (next s t r)
+    good : Good s (next s t r)
+
+  settles : (r : Round) → t .hasClosed ≡ false → demandsStand s t ≡ true → roundOf s (t .moves) ≡ r → Settles r
+  unfolding next narrowedBy
+  settles (raised x) o h e = record { auction = raised-record x o e; tables = moved-tables h; good = good-moved o (λ q. raised-closed x (sym e ∙ q)) }
+  settles (lowered x) o h e = record { auction = lowered-record x o e; tables = moved-tables h; good = good-moved o (λ q. lowered-closed x (sym e ∙ q)) }
+  settles closed o h e = record { auction = closed-record; tables = unfold tablesOf in refl; good = good-closed h e }
 
   -- ---- the call
 
-  answer-by : (x : ℕ) → endNumber (standsFor s t) ≡ x → endAnswer (standsFor s t) ≡ elim x [ zero ↦ gives (roundBy (standsFor s t)) | suc j ↦ refused (suc j) ]
+  answer-by : (x : ℕ) → endNumber (standsFor s t) (tablesOf s t) ≡ x → endAnswer (standsFor s t) (tablesOf s t) ≡ elim x [ zero ↦ gives (roundBy (standsFor s t)) | suc j ↦ refused (suc j) ]
   unfolding endAnswer
   answer-by x e = ap (λ (x : ℕ). elim x [ zero ↦ gives (roundBy (standsFor s t)) | suc j ↦ refused (suc j) ]) e
 
-  next-by : (x : ℕ) → endNumber (standsFor s t) ≡ x → endNext (standsFor s t) ≡ elim x [ zero ↦ settled (standsFor s t) (roundBy (standsFor s t)) | suc j ↦ standsFor s t ]
+  next-by : (x : ℕ) → endNumber (standsFor s t) (tablesOf s t) ≡ x
+      → endNext (standsFor s t) (tablesOf s t) ≡ elim x [ zero ↦ settled (standsFor s t) (roundBy (standsFor s t)) | suc j ↦ standsFor s t ]
   unfolding endNext
   next-by x e = ap (λ (x : ℕ). elim x [ zero ↦ settled (standsFor s t) (roundBy (standsFor s t)) | suc j ↦ standsFor s t ]) e
 
-  pub next-round : t .hasClosed ≡ false → demandsStand s t ≡ true → endAnswer (standsFor s t) ≡ gives (roundOf s (t .moves))
+  tables-by : (x : ℕ) → endNumber (standsFor s t) (tablesOf s t) ≡ x
+      → endTables (standsFor s t) (tablesOf s t) ≡ elim x [ zero ↦ narrowedBy (standsFor s t) (tablesOf s t) (roundBy (standsFor s t)) | suc j ↦ tablesOf s t ]
+  unfolding endTables
+  tables-by x e = ap (λ (x : ℕ). elim x [ zero ↦ narrowedBy (standsFor s t) (tablesOf s t) (roundBy (standsFor s t)) | suc j ↦ tablesOf s t ]) e
+
+  pub next-round : t .hasClosed ≡ false → demandsStand s t ≡ true → endAnswer (standsFor s t) (tablesOf s t) ≡ gives (roundOf s (t .moves))
   next-round o h = answer-by 0 (not-refused o h) ∙ ap gives (round-is o h)
 
   abbrev answered : Answered
-  answered = record { answer = ended (endAnswer (standsFor s t)); next = endNext (standsFor s t) }
+  answered =
+      record {
+        answer = ended (endAnswer (standsFor s t) (tablesOf s t));
+        next = record { auction = endNext (standsFor s t) (tablesOf s t); tables = endTables (standsFor s t) (tablesOf s t) };
+      }
 
-  moves : t .hasClosed ≡ false → demandsStand s t ≡ true → Follows s answered (answers (ended (gives (roundOf s (t .moves)))) (next t (roundOf s (t .moves))))
-  unfolding Follows
+  moves : t .hasClosed ≡ false → demandsStand s t ≡ true → Follows s answered (answers (ended (gives (roundOf s (t .moves)))) (next s t (roundOf s (t .moves))))
+  unfolding Follows heldFor
   moves o h =
       let q = settles (roundOf s (t .moves)) o h refl in
-      (ap ended (next-round o h), next-by 0 (not-refused o h) ∙ ap (settled (standsFor s t)) (round-is o h) ∙ q .0, q .1)
+      let r = next-by 0 (not-refused o h) ∙ ap (settled (standsFor s t)) (round-is o h) ∙ q .auction in
+      let ts = tables-by 0 (not-refused o h) ∙ ap (narrowedBy (standsFor s t) (tablesOf s t)) (round-is o h) ∙ q .tables in
+      (ap ended (next-round o h), held-by _ _ _ _ r ts, q .good)
 
-  turned-down : (x : ℕ) → endNumber (standsFor s t) ≡ x → Follows s answered (turned x t)
-  unfolding turned Follows
+  turned-down : (x : ℕ) → endNumber (standsFor s t) (tablesOf s t) ≡ x → Follows s answered (turned x t)
+  unfolding turned Follows heldFor
   turned-down zero e = tt
-  turned-down (suc j) e = (ap ended (answer-by (suc j) e), next-by (suc j) e, g)
+  turned-down (suc j) e = (ap ended (answer-by (suc j) e), held-by _ _ _ _ (next-by (suc j) e) (tables-by (suc j) e), g)
 
-  pub end-follows : Follows s (call (standsFor s t) ending) (machine s t ending)
-  unfolding call machine machineEnd
+  pub end-follows : Follows s (call (heldFor s t) ending) (machine s t ending)
+  unfolding call machine machineEnd heldFor
   end-follows = go (not (t .hasClosed) && demandsStand s t) refl
     where
       go : (b : Bool) → not (t .hasClosed) && demandsStand s t ≡ b
           → Follows s answered (elim b [
-            | true ↦ answers (ended (gives (roundOf s (t .moves)))) (next t (roundOf s (t .moves)))
+            | true ↦ answers (ended (gives (roundOf s (t .moves)))) (next s t (roundOf s (t .moves)))
             | false ↦ turned (machineEndNumber s t) t
           ])
       go true e = moves (not-true-is (t .hasClosed) (and-left (not (t .hasClosed)) (demandsStand s t) e)) (and-right (not (t .hasClosed)) (demandsStand s t) e)

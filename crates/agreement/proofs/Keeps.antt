@@ -51,7 +51,7 @@ module _ (q : Auction) (no-sets : q .sets ≡ replicate 64 0) (no-nulls : q .nul
   is-empty : (k : ℕ) → k < 64 → isEmpty (place q k) ≡ true
   is-empty k l = ap isEmpty (empty-place k l) ∙ (unfold isEmpty in refl)
 
-  none-reported : (b : ℕ) → hasReported q b ≡ false
+  pub none-reported : (b : ℕ) → hasReported q b ≡ false
   unfolding hasReported
   none-reported b = ap (λ (x : ℕ). has x b) no-reported ∙ empty-has b
 
@@ -93,7 +93,7 @@ empty-null r k e = not-is (has (r .nulls) (suc k)) (and-left (not (has (r .nulls
 
 module _ (r : Auction) (long : length (r .sets) ≡ 64) (f : Formed r) (b : ℕ) (d : Demand) (some : 1 ≤ b) (most : b ≤ r .bidders)
     (fresh : hasReported r b ≡ false) (fit : unfit (r .items) d ≡ false) where
-  abbrev next : Auction
+  abbrev pub next : Auction
   next = withReport r b d
 
   null-before : has (r .nulls) b ≡ false
@@ -104,7 +104,7 @@ module _ (r : Auction) (long : length (r .sets) ≡ 64) (f : Formed r) (b : ℕ)
   abbrev nullsNow : ℕ → Bool
   nullsNow i = has (r .nulls) i || (d .null && eqb i b)
 
-  place-same : (k : ℕ) → k < 64 → suc k ≡ b → place next k ≡ d
+  pub place-same : (k : ℕ) → k < 64 → suc k ≡ b → place next k ≡ d
   unfolding place withReport
   place-same k l e =
       let q : b - 1 ≡ k = omega arith in
@@ -115,7 +115,7 @@ module _ (r : Auction) (long : length (r .sets) ≡ 64) (f : Formed r) (b : ℕ)
       ap (λ (j : ℕ). getD (set (r .sets) j (d .items)) k 0) q ∙ getD-set-same (r .sets) k (d .items) 0 (subst (λ (n : ℕ). k < n) (sym long) l) in
       ap (λ (x : Bool). record { null = x; items = getD (set (r .sets) (b - 1) (d .items)) k 0 }) a ∙ ap (λ (x : ℕ). record { null = d .null; items = x }) c
 
-  place-other : (k : ℕ) → k < 64 → (suc k ≡ b → ⊥) → place next k ≡ place r k
+  pub place-other : (k : ℕ) → k < 64 → (suc k ≡ b → ⊥) → place next k ≡ place r k
   unfolding place withReport
   place-other k l ne =
       let a : has (setOf 64 nullsNow) (suc k) ≡ has (r .nulls) (suc k) =
@@ -124,7 +124,7 @@ module _ (r : Auction) (long : length (r .sets) ≡ 64) (f : Formed r) (b : ℕ)
       let c : getD (set (r .sets) (b - 1) (d .items)) k 0 ≡ getD (r .sets) k 0 = getD-set-other (r .sets) (b - 1) k (d .items) 0 (λ q. ne (omega arith)) in
       ap (λ (x : Bool). record { null = x; items = getD (set (r .sets) (b - 1) (d .items)) k 0 }) a ∙ ap (λ (x : ℕ). record { null = has (r .nulls) (suc k); items = x }) c
 
-  reported-other : (k : ℕ) → k < 64 → (suc k ≡ b → ⊥) → hasReported next (suc k) ≡ hasReported r (suc k)
+  pub reported-other : (k : ℕ) → k < 64 → (suc k ≡ b → ⊥) → hasReported next (suc k) ≡ hasReported r (suc k)
   unfolding hasReported withReport
   reported-other k l ne =
       has-setOf 64 (λ i. has (r .reported) i || eqb i b) k l ∙ ap (λ (x : Bool). has (r .reported) (suc k) || x) (ne-eqb (suc k) b ne) ∙ or-false (has (r .reported) (suc k))
@@ -132,7 +132,7 @@ module _ (r : Auction) (long : length (r .sets) ≡ 64) (f : Formed r) (b : ℕ)
   beyond-fit : beyond (r .items) d ≡ false
   beyond-fit = or-right-false (isEmpty d) (beyond (r .items) d) (unfold unfit in fit)
 
-  reported-same : (k : ℕ) → k < 64 → suc k ≡ b → hasReported next (suc k) ≡ true
+  pub reported-same : (k : ℕ) → k < 64 → suc k ≡ b → hasReported next (suc k) ≡ true
   unfolding hasReported withReport
   reported-same k l e =
       has-setOf 64 (λ i. has (r .reported) i || eqb i b) k l ∙ ap (λ (x : Bool). has (r .reported) (suc k) || x) (eq-eqb (suc k) b e) ∙ or-right (has (r .reported) (suc k)) true refl

@@ -1,5 +1,5 @@
-pub mod Agreed
 pub mod Numbers
+pub mod Lent
 pub mod Rounds
 pub mod Keeps
 pub mod Settles
@@ -7,6 +7,7 @@ pub mod Always
 pub mod Lists
 pub mod Along
 pub mod Standing
+pub mod Tabled
 pub mod Follows
 pub mod Reporting
 pub mod Ending
@@ -16,4 +17,9 @@ pub mod Agreement
 pub mod Endings
 pub mod Sealed
 pub mod Sheets
-pub mod AgreedBytes
+pub mod Calling
+pub mod Allowed
+pub mod Explainable
+pub mod Choosing
+pub mod NeverLeft
+pub mod Coherent

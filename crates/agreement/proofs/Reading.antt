@@ -23,7 +23,7 @@ use Rattle.live.specs.Calls.{isClosed}
 use Rattle.live.specs.Reading.{readNumber, namesOf, sheetOf, readBytes}
 use Rattle.agreement.specs.Calls.{reading, shown, call}
 use Rattle.agreement.specs.Machine.{Machine, at, answers, threeLines, machineReadNumber, machineRead, machine}
-use Rattle.agreement.specs.Agreement.{standsFor, ClosedAs}
+use Rattle.agreement.specs.Agreement.{standsFor, heldFor, ClosedAs}
 use Rattle.agreement.proofs.Along.{closed-close}
 use Rattle.lines.proofs.Same.{sheet-same}
 use Rattle.agreement.proofs.Numbers.{first-same}
@@ -101,15 +101,15 @@ module _ (s : Sheet) (lim : Limits s) (c : Closing s) (t : Machine) (g : Good s 
   closed-read out e = not-false-is (t .hasClosed) (first-none 14 (not (t .hasClosed)) _ e .0)
 
   read-by : (out : List ℕ) (x : ℕ) → (x ≡ 0 → t .hasClosed ≡ true)
-      → Follows s (record { answer = shown x (elim x [ zero ↦ writtenTo out (sheetOf (standsFor s t)) | suc j ↦ out ]); next = standsFor s t })
+      → Follows s (record { answer = shown x (elim x [ zero ↦ writtenTo out (sheetOf (standsFor s t)) | suc j ↦ out ]); next = heldFor s t })
       (elim x [ zero ↦ answers (shown 0 (writtenTo out (threeLines s))) t | suc j ↦ answers (shown (suc j) out) t ])
   unfolding Follows
   read-by out zero h = (ap (λ (y : List ℕ). shown 0 (writtenTo out y)) (lines-are (h refl)), refl, g)
   read-by out (suc j) h = (refl, refl, g)
 
-  pub read-follows : (out : List ℕ) → Follows s (call (standsFor s t) (reading out)) (machine s t (reading out))
-  unfolding call machine machineRead readBytes
+  pub read-follows : (out : List ℕ) → Follows s (call (heldFor s t) (reading out)) (machine s t (reading out))
+  unfolding call machine machineRead readBytes heldFor
   read-follows out =
-      subst (λ (x : ℕ). Follows s (record { answer = shown x (elim x [ zero ↦ writtenTo out (sheetOf (standsFor s t)) | suc j ↦ out ]); next = standsFor s t })
+      subst (λ (x : ℕ). Follows s (record { answer = shown x (elim x [ zero ↦ writtenTo out (sheetOf (standsFor s t)) | suc j ↦ out ]); next = heldFor s t })
       (machine s t (reading out))) (sym (read-number out))
       (read-by out (machineReadNumber s t out) (closed-read out))

@@ -19,22 +19,24 @@ use Rattle.rule.proofs.Limits.{Limits}
 use Rattle.rule.proofs.Refusal.{passed, none as first-none, in-range}
 use Rattle.reports.specs.Report.{unfit}
 use Rattle.live.specs.Auction.{hasReported, wellFormed}
+use Rattle.live.specs.Tables.{badTables, tablesFit, unexplainedAt}
 use Rattle.live.specs.Calls.{isClosed, reportNumber, withReport, report, clearNumber, cleared, clear}
 use Rattle.live.proofs.Parts.{by-parts}
 use Rattle.agreement.specs.Calls.{reporting, clearing, call}
-use Rattle.agreement.specs.Machine.{Standing, none, stands, Machine, at, phase, doesStand, said, tells, machine, machineReport, machineClear}
-use Rattle.agreement.specs.Agreement.{standsFor}
+use Rattle.agreement.specs.Machine.{Standing, none, stands, Machine, at, phase, doesStand, said, tells, unexplainedBy, machine, machineReport, machineClear}
+use Rattle.agreement.specs.Agreement.{standsFor, tablesOf, heldFor}
 use Rattle.agreement.proofs.Lists.{tabulate-set}
 use Rattle.agreement.proofs.Numbers.{first-same}
 use Rattle.agreement.proofs.Standing.{closed-stands, reported-is}
+use Rattle.agreement.proofs.Tabled.{Tabled, not-bad, tables-fit, nineteen-is}
 use Rattle.agreement.proofs.Follows.{Good, Follows, replies, no-nulls, no-reported, no-sets}
 
 -- one more report stands, and none stands
 abbrev with : Machine → ℕ → Demand → Machine
-with t b d = record { moves = t .moves; hasClosed = t .hasClosed; standing = λ i. cond (eqb i b) (stands d) (t .standing i) }
+with t b d = record { moves = t .moves; hasClosed = t .hasClosed; standing = λ i. cond (eqb i b) (stands d) (t .standing i); tables = t .tables }
 
 abbrev without : Machine → Machine
-without t = record { moves = t .moves; hasClosed = t .hasClosed; standing = λ i. none }
+without t = record { moves = t .moves; hasClosed = t .hasClosed; standing = λ i. none; tables = t .tables }
 
 not-standing : (x : Standing) → doesStand x ≡ false → x ≡ none
 not-standing none e = refl
@@ -47,9 +49,14 @@ module _ (s : Sheet) (t : Machine) (g : Good s t) (w : wellFormed (standsFor s t
   pub not-eleven : not (wellFormed (standsFor s t)) ≡ false
   not-eleven = ap not w
 
-  -- what is said of the path stays, and the machine has not closed
-  pub good-open : (u : Machine) → u .moves ≡ t .moves → u .hasClosed ≡ false → Good s u
-  good-open u e o = record { not-before = λ k l. g .not-before k (subst (λ (x : ℕ). k < x) e l); at-close = λ h. absurd (not-both (u .hasClosed) h o) }
+  -- what is said of the path and of the tables stays, and the machine has not closed
+  pub good-open : (u : Machine) → u .moves ≡ t .moves → u .tables ≡ t .tables → u .hasClosed ≡ false → Good s u
+  good-open u e q o =
+      record {
+        not-before = λ k l. g .not-before k (subst (λ (x : ℕ). k < x) e l);
+        at-close = λ h. absurd (not-both (u .hasClosed) h o);
+        tabled = subst (Tabled s) (sym q) (g .tabled);
+      }
 
   -- ---- clear
 
@@ -63,12 +70,12 @@ module _ (s : Sheet) (t : Machine) (g : Good s t) (w : wellFormed (standsFor s t
   unfolding cleared standsFor at phase
   clear-record = by-parts (cleared (standsFor s t)) (standsFor s (without t)) refl refl refl refl no-sets no-nulls no-reported refl refl refl
 
-  pub clear-follows : Follows s (call (standsFor s t) clearing) (machine s t clearing)
-  unfolding call clear machine machineClear
+  pub clear-follows : Follows s (call (heldFor s t) clearing) (machine s t clearing)
+  unfolding call clear machine machineClear heldFor tablesOf
   clear-follows =
-      subst (λ (x : ℕ). Follows s (call (standsFor s t) clearing) (tells x t (without t))) clear-number
-      (replies s t (without t) (clearNumber (standsFor s t)) (cleared (standsFor s t)) g
-      (λ e. (clear-record, good-open (without t) refl (first-none 11 (t .hasClosed) [] (sym clear-number ∙ e) .0))))
+      subst (λ (x : ℕ). Follows s (call (heldFor s t) clearing) (tells x t (without t))) clear-number
+      (replies s t (without t) (clearNumber (standsFor s t)) (cleared (standsFor s t)) g refl
+      (λ e. (clear-record, good-open (without t) refl refl (first-none 11 (t .hasClosed) [] (sym clear-number ∙ e) .0))))
 
   -- ---- report
 
@@ -81,16 +88,25 @@ module _ (s : Sheet) (t : Machine) (g : Good s t) (w : wellFormed (standsFor s t
     thirteen : badBidder n b ≡ false → hasReported (standsFor s t) b ≡ doesStand (t .standing b)
     thirteen e = reported-is s t b (range e .0) (omega (arith, lim .max-bidders, range e .1))
 
-    abbrev numbers : List Refusal
-    numbers = on 12 (t .hasClosed) ∷ on 7 (badBidder n b) ∷ on 13 (doesStand (t .standing b)) ∷ on 8 (unfit (s .items) d) ∷ []
+    -- 19, of such a bidder
+    nineteen : badBidder n b ≡ false → unexplainedAt (standsFor s t) (tablesOf s t) (b - 1) d ≡ unexplainedBy s t (b - 1) d
+    nineteen e = let q = range e in nineteen-is s t (g .tabled) lim (b - 1) (omega (arith, q .0, q .1)) d
 
-    report-number : reportNumber (standsFor s t) b d ≡ first numbers
+    abbrev numbers : List Refusal
+    numbers =
+        on 12 (t .hasClosed) ∷ on 7 (badBidder n b) ∷ on 13 (doesStand (t .standing b)) ∷ on 8 (unfit (s .items) d) ∷ on 19 (unexplainedBy s t (b - 1) d) ∷ []
+
+    report-number : reportNumber (standsFor s t) (tablesOf s t) b d ≡ first numbers
     unfolding reportNumber standsFor
     report-number =
         passed 11 (not (wellFormed (standsFor s t))) _ not-eleven
+        ∙ passed 3 (badTables (standsFor s t .bidders) (tablesOf s t)) _ (not-bad s t (g .tabled))
+        ∙ passed 11 (not (tablesFit (standsFor s t) (tablesOf s t))) _ (ap not (tables-fit s t (g .tabled)))
         ∙ first-same 12 (isClosed (standsFor s t .phase)) (t .hasClosed) _ _ (closed-stands s t)
         (λ e. first-same 7 (badBidder n b) (badBidder n b) _ _ refl
-        (λ e. first-same 13 (hasReported (standsFor s t) b) (doesStand (t .standing b)) _ _ (thirteen e) (λ e. refl)))
+        (λ q. first-same 13 (hasReported (standsFor s t) b) (doesStand (t .standing b)) _ _ (thirteen q)
+        (λ e. first-same 8 (unfit (s .items) d) (unfit (s .items) d) _ _ refl
+        (λ e. first-same 19 (unexplainedAt (standsFor s t) (tablesOf s t) (b - 1) d) (unexplainedBy s t (b - 1) d) [] [] (nineteen q) (λ e. refl)))))
 
     -- what no number says
     record Accepted : Type 0 where
@@ -151,9 +167,9 @@ module _ (s : Sheet) (t : Machine) (g : Good s t) (w : wellFormed (standsFor s t
     report-record a =
         by-parts (withReport (standsFor s t) b d) (standsFor s (with t b d)) refl refl refl refl (report-sets (a .some)) (report-nulls (a .first-time)) report-reported refl refl refl
 
-    pub report-follows : Follows s (call (standsFor s t) (reporting b d)) (machine s t (reporting b d))
-    unfolding call report machine machineReport
+    pub report-follows : Follows s (call (heldFor s t) (reporting b d)) (machine s t (reporting b d))
+    unfolding call report machine machineReport heldFor tablesOf
     report-follows =
-        subst (λ (x : ℕ). Follows s (call (standsFor s t) (reporting b d)) (tells x t (with t b d))) report-number
-        (replies s t (with t b d) (reportNumber (standsFor s t) b d) (withReport (standsFor s t) b d) g
-        (λ e. let a = accepted (sym report-number ∙ e) in (report-record a, good-open (with t b d) refl (a .before-close))))
+        subst (λ (x : ℕ). Follows s (call (heldFor s t) (reporting b d)) (tells x t (with t b d))) report-number
+        (replies s t (with t b d) (reportNumber (standsFor s t) (tablesOf s t) b d) (withReport (standsFor s t) b d) g refl
+        (λ e. let a = accepted (sym report-number ∙ e) in (report-record a, good-open (with t b d) refl refl (a .before-close))))

@@ -1,11 +1,12 @@
 -- The bytes that closing a bid sheet writes are those that a live read of the same sheet's close writes, and behind them the line of gains. Assumes nothing.
 use Prim.Native.Nat.{ℕ, zero, suc}
 use mathlib.Core.Path.{_≡_, refl, sym, ap, _∙_, subst}
-use mathlib.Core.Bool.{true, not}
+use mathlib.Core.Bool.{true, false, not}
 use mathlib.Core.List.{List, [], _∷_, _++_}
 use native.Mathlib.Omega.{arith}
 use lib.Dec.{ltb}
 use lib.ListN.{length}
+use lib.IntN.{ℤ}
 use borrow.Author.Tests.{ltb-false}
 use Rattle.rule.specs.Sheet.{Sheet}
 use Rattle.rule.specs.Round.{State, close}
@@ -15,6 +16,7 @@ use Rattle.rule.specs.Refusal.{on, first}
 use Rattle.rule.proofs.Refusal.{passed, none as first-none}
 use Rattle.lines.specs.Lines.{amountsLine, sealedSheet, closingLength, sealedLength, writtenTo}
 use Rattle.live.specs.Auction.{wellFormed}
+use Rattle.live.specs.Tables.{badTables}
 use Rattle.live.specs.Calls.{isClosed}
 use Rattle.live.specs.Reading.{tooFew, readNumber, readBytes}
 use Rattle.live.specs.declared.Auction.{Auction}
@@ -99,28 +101,28 @@ module _ (bytes : List ℕ) (room : ℕ) (e : sheetRefusal bytes room ≡ 0) whe
 
   -- ---- the record after the list
 
-  module _ (calls : List Call) (theirs : List Answer) (t : Machine) (q : machineRun s begin calls ≡ ran theirs t) where
+  module _ (lent : List ℤ) (fit : badTables (length (s .bids)) lent ≡ false) (calls : List Call) (theirs : List Answer) (t : Machine) (q : machineRun s (begin s) calls ≡ ran theirs t) where
     abbrev r : Auction
-    r = liveRun s calls .last
+    r = liveRun s lent calls .last .auction
 
     -- once closed, a read is turned down by 3 or not at all
     read-number : t .hasClosed ≡ true → (out : List ℕ)
-        → readNumber (liveRun (sheetIn bytes) calls .last) out ≡ first (on 3 (ltb (length out) (closingLength (sheetIn bytes .items) (length (sheetIn bytes .bids)))) ∷ [])
+        → readNumber (liveRun (sheetIn bytes) lent calls .last .auction) out ≡ first (on 3 (ltb (length out) (closingLength (sheetIn bytes .items) (length (sheetIn bytes .bids)))) ∷ [])
     unfolding readNumber standsFor
     read-number done out =
-        let g = agreement s (promised bytes room e .within) calls theirs t q in
+        let g = agreement s (promised bytes room e .within) lent fit calls theirs t q in
         passed 11 (not (wellFormed r)) _ (ap not (g .well-formed))
         ∙ passed 15 (not (isClosed (r .phase))) _ (ap (λ (p : Phase). not (isClosed p)) (g .closed-when done))
         ∙ ap (λ (x : Auction). first (on 3 (tooFew x out) ∷ [])) (g .same-record)
 
     read-bytes : t .hasClosed ≡ true → (out : List ℕ)
-        → readBytes (liveRun (sheetIn bytes) calls .last) out
-        ≡ byNumber (readNumber (liveRun (sheetIn bytes) calls .last) out) (writtenTo out (threeLines (sheetIn bytes))) out
+        → readBytes (liveRun (sheetIn bytes) lent calls .last .auction) out
+        ≡ byNumber (readNumber (liveRun (sheetIn bytes) lent calls .last .auction) out) (writtenTo out (threeLines (sheetIn bytes))) out
     read-bytes done out = go (readNumber r out) refl
       where
         go : (why : ℕ) → readNumber r out ≡ why → readBytes r out ≡ byNumber why (writtenTo out (threeLines s)) out
         go zero z =
-            agreement s (promised bytes room e .within) calls theirs t q .as-the-sheet done .reads-lines out
+            agreement s (promised bytes room e .within) lent fit calls theirs t q .as-the-sheet done .reads-lines out
             (ltb-false (length out) (closingLength (s .items) (length (s .bids))) (first-none 2 (ltb (length out) (closingLength (s .items) (length (s .bids)))) [] (sym (read-number done out) ∙ z) .0))
         go (suc why) z = bytes-before r out (λ n. omega (arith, n, z))
 
@@ -129,12 +131,12 @@ pub closes-sheet : (bytes : List ℕ) (room : ℕ) → sheetRefusal bytes room �
 closes-sheet bytes room e = record { close-number = close-number bytes room e; close-bytes = close-bytes bytes room e }
 
 -- and what every live list on their sheet reads, in which the machine never leaves the sheet
-pub reads-sheet : (bytes : List ℕ) (room : ℕ) → sheetRefusal bytes room ≡ 0 → (calls : List Call) (theirs : List Answer) (t : Machine)
-    → machineRun (sheetIn bytes) begin calls ≡ ran theirs t → ReadsSheet bytes calls t
-reads-sheet bytes room e calls theirs t q =
-    let g = agreement (sheetIn bytes) (promised bytes room e .within) calls theirs t q in
+pub reads-sheet : (bytes : List ℕ) (room : ℕ) → sheetRefusal bytes room ≡ 0 → (lent : List ℤ) → badTables (length (sheetIn bytes .bids)) lent ≡ false
+    → (calls : List Call) (theirs : List Answer) (t : Machine) → machineRun (sheetIn bytes) (begin (sheetIn bytes)) calls ≡ ran theirs t → ReadsSheet bytes lent calls t
+reads-sheet bytes room e lent fit calls theirs t q =
+    let g = agreement (sheetIn bytes) (promised bytes room e .within) lent fit calls theirs t q in
     record {
-      in-list = subst (EachAs bytes calls) (sym (g .same-answers)) (subst (EachOf bytes room e calls) q (each-as bytes room e begin calls));
-      read-number = read-number bytes room e calls theirs t q;
-      read-bytes = read-bytes bytes room e calls theirs t q;
+      in-list = subst (EachAs bytes calls) (sym (g .same-answers)) (subst (EachOf bytes room e calls) q (each-as bytes room e (begin (sheetIn bytes)) calls));
+      read-number = read-number bytes room e lent fit calls theirs t q;
+      read-bytes = read-bytes bytes room e lent fit calls theirs t q;
     }

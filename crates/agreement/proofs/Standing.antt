@@ -6,11 +6,10 @@ use native.Mathlib.Omega.{arith}
 use native.Mathlib.Nat.{zero-add}
 use lib.Dec.{eqb, ltb}
 use lib.ListN.{length, getD}
-use borrow.Author.Tests.{eqb-true}
 use Rattle.sets.specs.Count.{anyBelow}
 use Rattle.sets.specs.Bit.{has, setOf}
 use Rattle.sets.specs.Lists.{tabulate}
-use Rattle.sets.proofs.Counting.{all-use, any-use, any-cong, and-left, and-right, is-false, not-both}
+use Rattle.sets.proofs.Counting.{all-use, any-use, any-cong, is-false, not-both}
 use Rattle.sets.proofs.Lists.{tabulate-at, tabulate-same, places-at}
 use Rattle.sets.proofs.Members.{has-setOf, setOf-cong}
 use Rattle.rule.specs.Sheet.{amount, Sheet}
@@ -22,7 +21,7 @@ use Rattle.rule.proofs.Limits.{Limits}
 use Rattle.reports.proofs.Same.{same-demand}
 use Rattle.round.specs.Reports.{reports}
 use Rattle.round.proofs.Reporting.{tabulate-nth}
-use Rattle.live.specs.Auction.{hasReported, missing, reportsOf, itemsAbove, risingSet}
+use Rattle.live.specs.Auction.{place, hasReported, missing, reportsOf, itemsAbove, risingSet}
 use Rattle.live.specs.Calls.{isClosed, atTop}
 use Rattle.agreement.specs.Machine.{Standing, none, stands, Machine, at, phaseOf, phase, doesStand, said, saidAll, isMissing, standsAs, demandsStand}
 use Rattle.agreement.specs.Agreement.{standsFor}
@@ -47,7 +46,7 @@ module _ (s : Sheet) (t : Machine) where
   abbrev n : ℕ
   n = length (s .bids)
 
-  each-stands : demandsStand s t ≡ true → (k : ℕ) → k < n → (doesStand (t .standing (suc k)) ≡ true) × (said (t .standing (suc k)) ≡ nth (demandsAt s (at s t .prices)) k)
+  pub each-stands : demandsStand s t ≡ true → (k : ℕ) → k < n → (doesStand (t .standing (suc k)) ≡ true) × (said (t .standing (suc k)) ≡ nth (demandsAt s (at s t .prices)) k)
   unfolding demandsStand
   each-stands h k l =
       stands-as (t .standing (suc k)) (nth (demandsAt s (at s t .prices)) k)
@@ -80,6 +79,12 @@ module _ (s : Sheet) (t : Machine) where
   set-is : (k : ℕ) → k < 64 → getD (tabulate 64 (λ k. said (t .standing (suc k)) .items) 0) k 0 ≡ said (t .standing (suc k)) .items
   set-is k l = tabulate-at 64 (λ k. said (t .standing (suc k)) .items) 0 k 0 l ∙ ap (λ (j : ℕ). said (t .standing (suc j)) .items) (zero-add k)
 
+  pub place-is : (k : ℕ) → k < 64 → place (standsFor s t) k ≡ said (t .standing (suc k))
+  unfolding place standsFor
+  place-is k l =
+      ap (λ (x : Bool). record { null = x; items = getD (tabulate 64 (λ k. said (t .standing (suc k)) .items) 0) k 0 }) (null-is k l)
+      ∙ ap (λ (y : ℕ). record { null = said (t .standing (suc k)) .null; items = y }) (set-is k l)
+
   reported-at : (k : ℕ) → k < 64 → hasReported (standsFor s t) (suc k) ≡ doesStand (t .standing (suc k))
   unfolding hasReported standsFor
   reported-at k l = has-setOf 64 (λ i. doesStand (t .standing i)) k l
@@ -93,6 +98,11 @@ module _ (s : Sheet) (t : Machine) where
   unfolding amount standsFor
   price-is k l = places-at 32 (at s t .prices) k l
 
+  -- prices of the options up to the items, null's among them
+  pub prices-same : s .items ≤ 32 → (i : ℕ) → i ≤ s .items → amount (standsFor s t .prices) i ≡ amount (at s t .prices) i
+  prices-same few zero l = unfold amount in refl
+  prices-same few (suc k) l = price-is k (omega arith)
+
   floor-is : (k : ℕ) → k < 32 → amount (standsFor s t .floors) (suc k) ≡ amount (s .floors) (suc k)
   unfolding amount standsFor
   floor-is k l = places-at 32 (s .floors) k l
@@ -103,8 +113,7 @@ module _ (s : Sheet) (t : Machine) where
     reports-is =
         let max = lim .max-bidders in
         tabulate-same n _ (λ k. said (t .standing (suc k)))
-        (λ k l. ap (λ (x : Bool). record { null = x; items = getD (tabulate 64 (λ k. said (t .standing (suc k)) .items) 0) k 0 }) (null-is k (omega (arith, max, l)))
-        ∙ ap (λ (y : ℕ). record { null = said (t .standing (suc k)) .null; items = y }) (set-is k (omega (arith, max, l))))
+        (λ k l. unfold place in place-is k (omega (arith, max, l)))
 
     pub missing-is : missing (standsFor s t) ≡ isMissing s t
     unfolding missing standsFor isMissing

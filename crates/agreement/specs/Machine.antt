@@ -1,9 +1,11 @@
--- The plain machine, fed with the sheet and the calls alone: document 01, "What demand 3 speaks of". Assumes nothing: these are definitions.
-use Prim.Native.Nat.{ℕ, zero, suc}
+-- The plain machine, fed with the sheet and the calls alone: document 01, "What demand 3 speaks of"; its tables are document 02's, #107. Assumes nothing: these are
+-- definitions.
+use Prim.Native.Nat.{ℕ, zero, suc, _-_}
 use mathlib.Core.Bool.{Bool, true, false, _&&_, not, cond}
 use mathlib.Core.List.{List, [], _∷_}
 use lib.Dec.{ltb, eqb}
 use lib.ListN.{length}
+use lib.IntN.{ℤ}
 use Rattle.sets.specs.Count.{allBelow, anyBelow}
 use Rattle.sets.specs.Lists.{tabulate}
 use Rattle.rule.specs.Sheet.{Sheet}
@@ -14,6 +16,8 @@ use Rattle.rule.specs.Closing.{demandsAt, roundOf, assignmentAt}
 use Rattle.rule.specs.Refusal.{on, first, badBidder}
 use Rattle.lines.specs.Lines.{closingSheet, closingLength, writtenTo}
 use Rattle.reports.specs.Report.{unfit, sameDemand}
+use Rattle.differences.specs.Table.{opening}
+use Rattle.differences.specs.Allowed.{narrowed, unexplained}
 use Rattle.live.specs.Calls.{isFalling, isRising, atTop, gives, refused}
 use Rattle.live.specs.declared.Phase.{Phase}
 use Rattle.live.specs.declared.Phase.the-variants.{Rising, Falling, Closed}
@@ -24,15 +28,16 @@ pub data Standing : Type 0 where
   none : Standing
   stands : Demand → Standing
 
--- how many moves it has made, whether it has closed, and the reports that stand, by the bidder's number
+-- how many moves it has made, whether it has closed, the reports that stand, by the bidder's number, and the bidders' tables, from 0
 pub record Machine : Type 0 where
   pub moves : ℕ
   pub hasClosed : Bool
   pub standing : ℕ → Standing
+  pub tables : ℕ → List (List ℤ)
 
--- at first no moves, not closed, none standing
-unfoldable pub begin : Machine
-begin = record { moves = 0; hasClosed = false; standing = λ i. none }
+-- at first no moves, not closed, none standing, and the opening's tables
+unfoldable pub begin : Sheet → Machine
+begin s = record { moves = 0; hasClosed = false; standing = λ i. none; tables = λ k. opening (s .items) }
 
 -- ---- what it holds
 
@@ -86,7 +91,11 @@ unfoldable pub tells : ℕ → Machine → Machine → Outcome
 tells zero t u = answers (told 0) u
 tells (suc j) t u = answers (told (suc j)) t
 
--- a report: 12, 7, 13, 8; otherwise it stands for its bidder
+-- 19: no bids of 0 to 4,095 meet the machine's table of bidder k + 1 and explain the report at its prices
+unfoldable pub unexplainedBy : Sheet → Machine → ℕ → Demand → Bool
+unexplainedBy s t k d = unexplained (s .items) (t .tables k) (at s t .prices) d
+
+-- a report: 12, 7, 13, 8, 19; otherwise it stands for its bidder
 unfoldable pub machineReport : Sheet → Machine → ℕ → Demand → Outcome
 machineReport s t bidder d =
     tells
@@ -95,12 +104,13 @@ machineReport s t bidder d =
     ∷ on 7 (badBidder (length (s .bids)) bidder)
     ∷ on 13 (doesStand (t .standing bidder))
     ∷ on 8 (unfit (s .items) d)
+    ∷ on 19 (unexplainedBy s t (bidder - 1) d)
     ∷ []))
-    t (record { moves = t .moves; hasClosed = t .hasClosed; standing = λ i. cond (eqb i bidder) (stands d) (t .standing i) })
+    t (record { moves = t .moves; hasClosed = t .hasClosed; standing = λ i. cond (eqb i bidder) (stands d) (t .standing i); tables = t .tables })
 
 -- a clear: 12; otherwise none stands
 unfoldable pub machineClear : Sheet → Machine → Outcome
-machineClear s t = tells (first (on 12 (t .hasClosed) ∷ [])) t (record { moves = t .moves; hasClosed = t .hasClosed; standing = λ i. none })
+machineClear s t = tells (first (on 12 (t .hasClosed) ∷ [])) t (record { moves = t .moves; hasClosed = t .hasClosed; standing = λ i. none; tables = t .tables })
 
 -- the number of a read: 15, 3
 unfoldable pub machineReadNumber : Sheet → Machine → List ℕ → ℕ
@@ -124,22 +134,27 @@ machineRead s t out =
       | suc j ↦ answers (shown (suc j) out) t
     ]
 
--- the number of an end that does not find each bidder's demand standing: 12, 14, then 16 or 17
+-- the number of an end that does not find each bidder's demand standing: 12, 14, 19, then 16 or 17
 unfoldable pub machineEndNumber : Sheet → Machine → ℕ
 machineEndNumber s t =
     let rising : ℕ = excessDemand (s .items) (saidAll s t) in
     first
     (on 12 (t .hasClosed)
     ∷ on 14 (isMissing s t)
+    ∷ on 19 (anyBelow (length (s .bids)) λ k. unexplainedBy s t k (said (t .standing (suc k))))
     ∷ on 16 (isFalling (phase s t) && not (eqb rising 0))
     ∷ on 17 (isRising (phase s t) && atTop (s .items) (at s t .prices) rising)
     ∷ [])
 
--- after a move no report stands any more; a close keeps the reports
-unfoldable pub next : Machine → Round → Machine
-next t (raised x) = record { moves = suc (t .moves); hasClosed = t .hasClosed; standing = λ i. none }
-next t (lowered x) = record { moves = suc (t .moves); hasClosed = t .hasClosed; standing = λ i. none }
-next t closed = record { moves = t .moves; hasClosed = true; standing = t .standing }
+-- the tables after a move: each narrowed by the sheet's demand
+unfoldable pub narrowedOn : Sheet → Machine → ℕ → List (List ℤ)
+narrowedOn s t k = narrowed (s .items) (t .tables k) (at s t .prices) (nth (demandsAt s (at s t .prices)) k)
+
+-- after a move no report stands any more; a close keeps reports and tables
+unfoldable pub next : Sheet → Machine → Round → Machine
+next s t (raised x) = record { moves = suc (t .moves); hasClosed = t .hasClosed; standing = λ i. none; tables = narrowedOn s t }
+next s t (lowered x) = record { moves = suc (t .moves); hasClosed = t .hasClosed; standing = λ i. none; tables = narrowedOn s t }
+next s t closed = record { moves = t .moves; hasClosed = true; standing = t .standing; tables = t .tables }
 
 -- an end that gets its number changes nothing; any other leaves the sheet
 unfoldable pub turned : ℕ → Machine → Outcome
@@ -151,7 +166,7 @@ turned (suc j) t = answers (ended (refused (suc j))) t
 unfoldable pub machineEnd : Sheet → Machine → Outcome
 machineEnd s t =
     elim (not (t .hasClosed) && demandsStand s t) [
-      | true ↦ answers (ended (gives (roundOf s (t .moves)))) (next t (roundOf s (t .moves)))
+      | true ↦ answers (ended (gives (roundOf s (t .moves)))) (next s t (roundOf s (t .moves)))
       | false ↦ turned (machineEndNumber s t) t
     ]
 

@@ -6,6 +6,7 @@ use mathlib.Core.List.{List, [], _∷_, _++_}
 use mathlib.Core.Path.{_≡_}
 use lib.Dec.{ltb}
 use lib.ListN.{length}
+use lib.IntN.{ℤ}
 use Rattle.rule.specs.Sheet.{Sheet}
 use Rattle.rule.specs.Round.{close}
 use Rattle.rule.specs.Gains.{gainsAt}
@@ -46,12 +47,12 @@ EachAs bytes (c ∷ cs) [] = ⊥
 EachAs bytes (c ∷ cs) (x ∷ xs) = ReadAs bytes c x × EachAs bytes cs xs
 
 -- what holds of a live list on the sheet that the bytes say, t being the machine's state after the list
-pub record ReadsSheet (bytes : List ℕ) (calls : List Call) (t : Machine) : Type 0 where
+pub record ReadsSheet (bytes : List ℕ) (lent : List ℤ) (calls : List Call) (t : Machine) : Type 0 where
   -- each read in the list
-  pub in-list : EachAs bytes calls (liveRun (sheetIn bytes) calls .answers)
+  pub in-list : EachAs bytes calls (liveRun (sheetIn bytes) lent calls .answers)
   -- once the machine has closed, a read of the record after the list writes them too; 3 goes by the three lines, and no other number applies
   pub read-number : t .hasClosed ≡ true → (out : List ℕ)
-      → readNumber (liveRun (sheetIn bytes) calls .last) out ≡ first (on 3 (ltb (length out) (closingLength (sheetIn bytes .items) (length (sheetIn bytes .bids)))) ∷ [])
+      → readNumber (liveRun (sheetIn bytes) lent calls .last .auction) out ≡ first (on 3 (ltb (length out) (closingLength (sheetIn bytes .items) (length (sheetIn bytes .bids)))) ∷ [])
   pub read-bytes : t .hasClosed ≡ true → (out : List ℕ)
-      → readBytes (liveRun (sheetIn bytes) calls .last) out
-      ≡ byNumber (readNumber (liveRun (sheetIn bytes) calls .last) out) (writtenTo out (threeLines (sheetIn bytes))) out
+      → readBytes (liveRun (sheetIn bytes) lent calls .last .auction) out
+      ≡ byNumber (readNumber (liveRun (sheetIn bytes) lent calls .last .auction) out) (writtenTo out (threeLines (sheetIn bytes))) out

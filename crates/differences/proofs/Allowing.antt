@@ -1,4 +1,4 @@
--- Law N for a report: bids meet the narrowed table if and only if they met the table and explain the report. Assumes nothing.
+-- Law N for a report: bids meet the narrowed table if and only if they met the table and explain the report. THEORY.md 4.3. Assumes nothing.
 use Prim.Native.Nat.{ℕ, suc, _+_, _-_, _^_, _≤_, _<_, min}
 use mathlib.Core.Path.{_≡_, refl, sym, ap, _∙_, subst}
 use mathlib.Core.Bool.{Bool, true, false, _&&_, _||_, cond}

@@ -1,5 +1,5 @@
 -- Bids that explain the reports of a record: their demands are the reports. So no end gives 17: where every report is explained by some bids of 0 to 4,095, an item of
--- the rising set is below a bid. Assumes nothing.
+-- the rising set is below a bid. THEORY.md 4.7. Assumes nothing.
 use Prim.Native.Nat.{ℕ, suc, _≤_, _<_}
 use mathlib.Core.Path.{_≡_, refl, sym, ap, _∙_, subst}
 use mathlib.Core.Bool.{Bool, true, false, _&&_, not}
