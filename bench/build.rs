@@ -1,4 +1,4 @@
-//! Links what `rt staticlib` leaves in the repository of the matching's exports and of the benchmark's.
+//! Links what `rt staticlib` leaves in the repository of the matching's exports. The benchmark's own come with `live_calls`.
 
 use std::path::PathBuf;
 
@@ -6,8 +6,6 @@ fn main() {
     let here = PathBuf::from(std::env::var_os("CARGO_MANIFEST_DIR").expect("cargo sets it"));
     let folder = here.parent().expect("the repository").join("target/staticlib");
     println!("cargo:rustc-link-search=native={}", folder.display());
-    for library in ["matching_exports", "bench_exports"] {
-        println!("cargo:rerun-if-changed={}", folder.join(format!("lib{library}.a")).display());
-        println!("cargo:rustc-link-lib=static={library}");
-    }
+    println!("cargo:rerun-if-changed={}", folder.join("libmatching_exports.a").display());
+    println!("cargo:rustc-link-lib=static=matching_exports");
 }

@@ -10,6 +10,7 @@ mod record;
 mod sealed;
 mod search;
 mod sheets;
+mod tables;
 
 use std::time::Instant;
 
@@ -40,11 +41,12 @@ fn main() {
     sealed::floors(worst.clone(), turns, &mut measured);
     sealed::falling(worst, turns, &mut measured);
     sealed::growth(turns, &mut measured);
+    let live = live::table(turns);
     let compared =
-        matched + measured.compared + live::table(turns) + bytes::table(turns, &mut measured.reading) + reasons::table(turns);
+        matched + measured.compared + live.compared + bytes::table(turns, &mut measured.reading) + reasons::table(turns);
     if quick {
         println!("{compared} passed, 0 failed");
     } else {
-        measured.limits();
+        measured.limits(live.limits());
     }
 }

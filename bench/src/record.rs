@@ -1,15 +1,16 @@
 //! The live auction once more in plain Rust, as a programmer would write it: a record that each call changes in place.
 
 use crate::plain::{above_floors, falling, rising, Demands};
-use crate::{bytes, search};
+use crate::{bytes, search, tables};
 use model::live::{self, Answer, Phase, Report};
+use model::tables::TABLE;
 use model::{Kind, TOP};
 
-/// The calls on a record, which they change in place; each answers its number, or 0.
+/// The calls on a record and its tables, which they change in place; each answers its number, or 0.
 pub trait Calls: Clone {
-    fn report(&mut self, bidder: u32, report: Report) -> u8;
+    fn report(&mut self, bidder: u32, report: Report, tables: &[i16]) -> u8;
     fn clear(&mut self) -> u8;
-    fn end(&mut self) -> Answer;
+    fn end(&mut self, tables: &mut [i16]) -> Answer;
     fn read(&self, out: &mut [u8]) -> u8;
 }
 
@@ -101,49 +102,31 @@ impl Record {
             _ => 0,
         }
     }
-}
 
-impl Calls for Record {
-    #[inline(never)]
-    fn report(&mut self, bidder: u32, report: Report) -> u8 {
-        let stopped = self.stopped();
-        if stopped != 0 {
-            return stopped;
+    /// 11, 3, 11, 12, or 0.
+    fn stopped_with(&self, tables: &[i16]) -> u8 {
+        if !self.well_formed() {
+            return 11;
         }
-        let b = bidder.wrapping_sub(1) as usize;
-        if b >= self.bidders {
-            return 7;
+        if tables.len() != self.bidders * TABLE {
+            return 3;
         }
-        if self.reported >> b & 1 == 1 {
-            return 13;
+        if !tables.chunks_exact(TABLE).all(|part| tables::fits(part, self.items)) {
+            return 11;
         }
-        if live::unfit(self.items as u32, report) {
-            return 8;
+        if self.phase == Phase::Closed {
+            12
+        } else {
+            0
         }
-        self.reports.items[b] = report.items;
-        self.reports.nulls |= u64::from(report.null) << b;
-        self.reported |= 1 << b;
-        0
     }
 
-    #[inline(never)]
-    fn clear(&mut self) -> u8 {
-        let stopped = self.stopped();
-        if stopped == 0 {
-            self.emptied();
-        }
-        stopped
+    fn report_of(&self, b: usize) -> Report {
+        Report { null: self.reports.nulls >> b & 1 == 1, items: self.reports.items[b] }
     }
 
-    #[inline(never)]
-    fn end(&mut self) -> Answer {
-        let stopped = self.stopped();
-        if stopped != 0 {
-            return Answer::Refused(stopped);
-        }
-        if self.reported != self.everybody() {
-            return Answer::Refused(14);
-        }
+    /// The round that the reports give: 16 or 17.
+    fn ended(&mut self) -> Answer {
         let rising = self.rising_set();
         if rising != 0 {
             if self.phase == Phase::Falling {
@@ -167,6 +150,64 @@ impl Calls for Record {
         }
         self.phase = Phase::Closed;
         Answer::Closed
+    }
+}
+
+impl Calls for Record {
+    #[inline(never)]
+    fn report(&mut self, bidder: u32, report: Report, tables: &[i16]) -> u8 {
+        let stopped = self.stopped_with(tables);
+        if stopped != 0 {
+            return stopped;
+        }
+        let b = bidder.wrapping_sub(1) as usize;
+        if b >= self.bidders {
+            return 7;
+        }
+        if self.reported >> b & 1 == 1 {
+            return 13;
+        }
+        if live::unfit(self.items as u32, report) {
+            return 8;
+        }
+        if !tables::explains(&tables[b * TABLE..][..TABLE], self.items, &self.prices, report) {
+            return 19;
+        }
+        self.reports.items[b] = report.items;
+        self.reports.nulls |= u64::from(report.null) << b;
+        self.reported |= 1 << b;
+        0
+    }
+
+    #[inline(never)]
+    fn clear(&mut self) -> u8 {
+        let stopped = self.stopped();
+        if stopped == 0 {
+            self.emptied();
+        }
+        stopped
+    }
+
+    #[inline(never)]
+    fn end(&mut self, tables: &mut [i16]) -> Answer {
+        let stopped = self.stopped_with(tables);
+        if stopped != 0 {
+            return Answer::Refused(stopped);
+        }
+        if self.reported != self.everybody() {
+            return Answer::Refused(14);
+        }
+        let (items, prices, reports) = (self.items, self.prices, self.clone());
+        let explained = |(b, part): (usize, &[i16])| tables::explains(part, items, &prices, reports.report_of(b));
+        if !tables.chunks_exact(TABLE).enumerate().all(explained) {
+            return Answer::Refused(19);
+        }
+        let answer = self.ended();
+        if let Answer::Moved(..) = answer {
+            let parts = tables.chunks_exact_mut(TABLE).enumerate();
+            parts.for_each(|(b, part)| tables::narrow(part, items, &prices, reports.report_of(b)));
+        }
+        answer
     }
 
     #[inline(never)]

@@ -121,8 +121,8 @@ impl Measured {
         *most = most.max(t.most);
     }
 
-    /// The limits that were set, and whether they hold in this run.
-    pub fn limits(&self) {
+    /// The limits that were set, and whether they hold in this run; the live calls' lines behind the others.
+    pub fn limits(&self, live: [(&str, &str, String, bool); 2]) {
         println!("\n| limit | set | this run | holds |");
         println!("|---|---|---|---|");
         let line = |what: &str, set: &str, is: String, holds: bool| {
@@ -143,6 +143,7 @@ impl Measured {
         line("beside plain Rust of the same search", "at most 1.5 times the time", ratio, self.ratio <= 1.5);
         let reading = format!("{:.2}", self.reading);
         line("a bid sheet is read, beside plain Rust", "at most 2.5 times the time", reading, self.reading <= 2.5);
+        live.into_iter().for_each(|(what, set, is, holds)| line(what, set, is, holds));
     }
 }
 

@@ -31,6 +31,13 @@
 //! assert_eq!(dewgneiss::falling_turn(&[4, 4], &[0, 0], &[2, 6, 3, 7, 6, 7], &closing).unwrap(), [0, 4]);
 //! assert_eq!((closing.prices, closing.names, closing.gains), (vec![2, 6], vec![0, 2, 1], vec![0, 1, 4]));
 //!
+//! // What a bidder may still bid after reporting item 2 alone at prices 4 and 4: more than 4 for item 2, and less for item 1.
+//! let mut table = [0; dewgneiss::TABLE];
+//! assert!(dewgneiss::table_fill(&mut table, 2));
+//! assert!(dewgneiss::table_narrow(&mut table, 2, &[4, 4], false, 0b10));
+//! assert_eq!(table[33..36], [4094, 0, -1]); // item 1 less null, less itself, less item 2
+//! assert!(!dewgneiss::table_explains(&table, 2, &[4, 4], true, 0)); // null at the same prices
+//!
 //! let refusal = dewgneiss::sealed(2, 3, &[4, 4096], &[2, 6, 3, 7, 6, 7]).unwrap_err();
 //! assert_eq!(refusal.number(), 4);
 //! println!("{refusal}");
@@ -41,6 +48,7 @@
 
 mod accepted;
 pub mod csv;
+mod differences;
 mod digits;
 mod order;
 pub mod path;
@@ -50,6 +58,7 @@ pub mod table;
 mod turn;
 
 pub use accepted::has_floors;
+pub use differences::{table_explains, table_fill, table_fits, table_narrow, OPTIONS, TABLE};
 pub use order::Order;
 pub use reasons::{falling_reasons, reason_sheet, reason_sheet_into, reasons, reasons_above, Kind, Reason};
 pub use refusal::Refusal;
@@ -90,6 +99,26 @@ mod linked {
     extern "C" {
         pub fn dewgneiss_close_sheet(bytes: *const u8, bytes_len: usize, out: *mut u8, out_len: usize) -> u8;
         pub fn dewgneiss_reasons(bytes: *const u8, bytes_len: usize, out: *mut u8, out_len: usize) -> usize;
+        pub fn dewgneiss_table_fill(part: *mut i16, part_len: usize, items: u32) -> u8;
+        pub fn dewgneiss_table_fits(part: *const i16, part_len: usize, items: u32) -> u8;
+        pub fn dewgneiss_table_explains(
+            part: *const i16,
+            part_len: usize,
+            items: u32,
+            prices: *const u16,
+            prices_len: usize,
+            null: u8,
+            set: u32,
+        ) -> u8;
+        pub fn dewgneiss_table_narrow(
+            part: *mut i16,
+            part_len: usize,
+            items: u32,
+            prices: *const u16,
+            prices_len: usize,
+            null: u8,
+            set: u32,
+        ) -> u8;
     }
 
     // The sealed auctions differ in what they read, and leave the same.

@@ -1,6 +1,6 @@
-// The live calls on a record in lent lists, and the writing of a closing sheet, for the benchmark to link. A record is lent as its numbers (items,
-// bidders, the bidders who say null, the bidders who have reported), its prices, its floors, its item sets, and its rounds (raised, lowered, and the phase:
-// 0 rising, 1 falling, 2 closed); each call leaves the next record there.
+// The live calls on a record in lent lists, and the writing of a closing sheet, for the benchmark and the comparison to link. A record is lent as its numbers
+// (items, bidders, the bidders who say null, the bidders who have reported), its prices, its floors, its item sets, and its rounds (raised, lowered, and the
+// phase: 0 rising, 1 falling, 2 closed); each call leaves the next record there. The tables are lent behind it.
 use live::Auction;
 use live::Ended;
 use live::Kind;
@@ -9,7 +9,7 @@ ghost use mathlib.Core.Path.{_≡_};
 ghost use lib.ListN.{length};
 ghost use Rattle.lines.specs.Lines.{closingSheet, closingLength, writes, afterWriting};
 ghost use Rattle.reports.specs.Report.{saying};
-ghost use Rattle.live.specs.Calls.{report, clear, endingOf, endAnswer, endNext};
+ghost use Rattle.live.specs.Calls.{openNumber, openAboveNumber, openAuction, openAbove, filledBy, report, clear, endingOf, endAnswer, endNext, endTables};
 ghost use Rattle.live.specs.Reading.{readNumber, readBytes};
 ghost use Rattle.bench_exports.specs.Lent.{phaseOf, phaseNumber, recordIn, StandsIn, endNumberOf, moveIn};
 
@@ -91,6 +91,55 @@ fn leave(
     *rounds = [auction.raised, auction.lowered, coded];
 }
 
+// Opens an auction without floors: the number that turns it down, or 0, and the record beside it.
+#[no_mangle]
+pub extern "C" fn bench_open(
+    items: usize,
+    bidders: usize,
+    start: &[u16],
+    numbers: &mut [u64; 4],
+    prices: &mut [u16; 32],
+    floors: &mut [u16; 32],
+    sets: &mut [u32; 64],
+    rounds: &mut [u32; 3],
+    tables: &mut [i16],
+) -> u8
+    ensures number { λ r. ⌜ r ≡ openAuction items bidders (now (start .entry)) (now (tables .entry)) .number ⌝ }
+    ensures record { λ _. ⌜ StandsIn (openAuction items bidders (now (start .entry)) (now (tables .entry)) .next)
+        (now (numbers .exit)) (now (prices .exit)) (now (floors .exit)) (now (sets .exit)) (now (rounds .exit)) ⌝ }
+    ensures tables { λ _. ⌜ now (tables .exit) ≡ filledBy (openNumber items bidders (now (start .entry)) (now (tables .entry))) items bidders (now (tables .entry)) ⌝ }
+{
+    let opened = live::open(items, bidders, start, tables);
+    let next = opened.next;
+    leave(next, numbers, prices, floors, sets, rounds);
+    opened.number
+}
+
+// Opens one with floors, `lowest`: the same.
+#[no_mangle]
+pub extern "C" fn bench_open_above(
+    items: usize,
+    bidders: usize,
+    start: &[u16],
+    lowest: &[u16],
+    numbers: &mut [u64; 4],
+    prices: &mut [u16; 32],
+    floors: &mut [u16; 32],
+    sets: &mut [u32; 64],
+    rounds: &mut [u32; 3],
+    tables: &mut [i16],
+) -> u8
+    ensures number { λ r. ⌜ r ≡ openAbove items bidders (now (start .entry)) (now (lowest .entry)) (now (tables .entry)) .number ⌝ }
+    ensures record { λ _. ⌜ StandsIn (openAbove items bidders (now (start .entry)) (now (lowest .entry)) (now (tables .entry)) .next)
+        (now (numbers .exit)) (now (prices .exit)) (now (floors .exit)) (now (sets .exit)) (now (rounds .exit)) ⌝ }
+    ensures tables { λ _. ⌜ now (tables .exit) ≡ filledBy (openAboveNumber items bidders (now (start .entry)) (now (lowest .entry)) (now (tables .entry))) items bidders (now (tables .entry)) ⌝ }
+{
+    let opened = live::open_above(items, bidders, start, lowest, tables);
+    let next = opened.next;
+    leave(next, numbers, prices, floors, sets, rounds);
+    opened.number
+}
+
 // A bidder's report: the number that turns it down, or 0.
 #[no_mangle]
 pub extern "C" fn bench_report(
@@ -102,12 +151,14 @@ pub extern "C" fn bench_report(
     bidder: usize,
     null: bool,
     set: u32,
+    tables: &[i16],
 ) -> u8
-    ensures number { λ r. ⌜ r ≡ report (recordIn (now (numbers .entry)) (now (prices .entry)) (now (floors .entry)) (now (sets .entry)) (now (rounds .entry))) bidder (saying null set) .number ⌝ }
-    ensures record { λ _. ⌜ StandsIn (report (recordIn (now (numbers .entry)) (now (prices .entry)) (now (floors .entry)) (now (sets .entry)) (now (rounds .entry))) bidder (saying null set) .next)
+    ensures number { λ r. ⌜ r ≡ report (recordIn (now (numbers .entry)) (now (prices .entry)) (now (floors .entry)) (now (sets .entry)) (now (rounds .entry))) (now (tables .entry)) bidder (saying null set) .number ⌝ }
+    ensures record { λ _. ⌜ StandsIn (report (recordIn (now (numbers .entry)) (now (prices .entry)) (now (floors .entry)) (now (sets .entry)) (now (rounds .entry))) (now (tables .entry)) bidder (saying null set) .next)
         (now (numbers .exit)) (now (prices .exit)) (now (floors .exit)) (now (sets .exit)) (now (rounds .exit)) ⌝ }
 {
-    let reported = record_in(numbers, prices, floors, sets, rounds).report(bidder, null, set);
+    let auction = record_in(numbers, prices, floors, sets, rounds);
+    let reported = auction.report(bidder, null, set, tables);
     let next = reported.next;
     leave(next, numbers, prices, floors, sets, rounds);
     reported.number
@@ -168,13 +219,15 @@ pub extern "C" fn bench_end(
     sets: &mut [u32; 64],
     rounds: &mut [u32; 3],
     moved: &mut [u32; 2],
+    tables: &mut [i16],
 ) -> u8
-    ensures number { λ r. ⌜ r ≡ endNumberOf (endAnswer (recordIn (now (numbers .entry)) (now (prices .entry)) (now (floors .entry)) (now (sets .entry)) (now (rounds .entry)))) ⌝ }
-    ensures moved { λ _. ⌜ now (moved .exit) ≡ moveIn (endAnswer (recordIn (now (numbers .entry)) (now (prices .entry)) (now (floors .entry)) (now (sets .entry)) (now (rounds .entry)))) ⌝ }
-    ensures record { λ _. ⌜ StandsIn (endNext (recordIn (now (numbers .entry)) (now (prices .entry)) (now (floors .entry)) (now (sets .entry)) (now (rounds .entry))))
+    ensures number { λ r. ⌜ r ≡ endNumberOf (endAnswer (recordIn (now (numbers .entry)) (now (prices .entry)) (now (floors .entry)) (now (sets .entry)) (now (rounds .entry))) (now (tables .entry))) ⌝ }
+    ensures moved { λ _. ⌜ now (moved .exit) ≡ moveIn (endAnswer (recordIn (now (numbers .entry)) (now (prices .entry)) (now (floors .entry)) (now (sets .entry)) (now (rounds .entry))) (now (tables .entry))) ⌝ }
+    ensures record { λ _. ⌜ StandsIn (endNext (recordIn (now (numbers .entry)) (now (prices .entry)) (now (floors .entry)) (now (sets .entry)) (now (rounds .entry))) (now (tables .entry)))
         (now (numbers .exit)) (now (prices .exit)) (now (floors .exit)) (now (sets .exit)) (now (rounds .exit)) ⌝ }
+    ensures tables { λ _. ⌜ now (tables .exit) ≡ endTables (recordIn (now (numbers .entry)) (now (prices .entry)) (now (floors .entry)) (now (sets .entry)) (now (rounds .entry))) (now (tables .entry)) ⌝ }
 {
-    let step = record_in(numbers, prices, floors, sets, rounds).end();
+    let step = record_in(numbers, prices, floors, sets, rounds).end(tables);
     let next = step.next;
     let ended = step.ended;
     leave(next, numbers, prices, floors, sets, rounds);

@@ -2,10 +2,16 @@
 -- that a wrong definition meets stands here. Assumes nothing.
 use Prim.Native.Nat.{ℕ}
 use mathlib.Core.Path.{_≡_, refl}
+use mathlib.Core.Bool.{true, false}
 use mathlib.Core.List.{List, [], _∷_}
-use Rattle.sets.specs.Count.{anyBelow}
+use lib.IntN.{ℤ}
+use Rattle.sets.specs.Count.{toNat, anyBelow}
+use Rattle.sets.specs.Lists.{places}
 use Rattle.rule.specs.Refusal.{first, badItems, badBidders, badLength, anyOver, anyUnder, badFloors}
+use Rattle.reports.specs.Report.{saying}
+use Rattle.differences.specs.Lent.{partFits, partExplains, partNarrowed}
 use Rattle.dewgneiss.specs.Lent.{unfit, lentRefusal, lentAboveRefusal}
+use Rattle.dewgneiss.specs.Tables.{isLent, fillAnswer, fillPart, fitsAnswer, isCall, saidBy, explainsAnswer, narrowPart}
 
 -- the definitions that the cases compute with
 computing : Unit {0}
@@ -57,3 +63,37 @@ pub counts : (lentAboveRefusal 0 0 (one 0) [] [] [] [] [] [] ≡ 1) × (lentAbov
     × (lentRefusal 33 65 [] [] [] [] [] [] ≡ 1) × (lentRefusal 32 65 [] [] [] [] [] [] ≡ 2)
 unfolding computing
 counts = (refl, refl, refl, refl)
+
+-- ---- tables: the arguments beside a part, which may hold anything; what is asked of it stays shut
+
+asking : Unit {0}
+unfolding badItems badLength isLent fillAnswer fillPart fitsAnswer isCall saidBy explainsAnswer narrowPart
+asking = tt
+
+-- 0 items and 33 are turned down
+pub items-outside : (xs : List ℤ) → (fillAnswer 0 xs ≡ 0) × (fillPart 0 xs ≡ xs) × (fillAnswer 33 xs ≡ 0) × (fillPart 33 xs ≡ xs) × (fitsAnswer 0 xs ≡ 0) × (fitsAnswer 33 xs ≡ 0)
+    × (explainsAnswer 0 xs [] 1 0 ≡ 0) × (narrowPart 0 xs [] 1 0 ≡ xs)
+unfolding asking
+items-outside xs = (refl, refl, refl, refl, refl, refl, refl, refl)
+
+-- so is a part of another length, in which nothing is filled
+pub no-part : (fillAnswer 1 [] ≡ 0) × (fillPart 1 [] ≡ [])
+unfolding asking
+no-part = (refl, refl)
+
+-- so are prices for fewer items and for more
+pub prices-apart : (xs : List ℤ) → (explainsAnswer 2 xs (one 5) 0 1 ≡ 0) × (narrowPart 2 xs (one 5) 0 1 ≡ xs) × (explainsAnswer 1 xs two 0 1 ≡ 0) × (narrowPart 1 xs two 0 1 ≡ xs)
+unfolding asking
+prices-apart xs = (refl, refl, refl, refl)
+
+-- so is 2 for null
+pub null-apart : (xs : List ℤ) → (explainsAnswer 1 xs (one 5) 2 1 ≡ 0) × (narrowPart 1 xs (one 5) 2 1 ≡ xs)
+unfolding asking
+null-apart xs = (refl, refl)
+
+-- 1 says null, and 0 does not
+pub null-said : (xs : List ℤ) → (explainsAnswer 1 xs (one 5) 1 0 ≡ toNat (partExplains 1 xs (places 32 (one 5)) (saying true 0))) × (narrowPart 1 xs (one 5) 1 0 ≡ partNarrowed 1 xs (places 32 (one 5)) (saying true 0))
+    × (explainsAnswer 1 xs (one 5) 0 1 ≡ toNat (partExplains 1 xs (places 32 (one 5)) (saying false 1))) × (narrowPart 1 xs (one 5) 0 1 ≡ partNarrowed 1 xs (places 32 (one 5)) (saying false 1))
+    × (fitsAnswer 1 xs ≡ toNat (partFits 1 xs))
+unfolding asking
+null-said xs = (refl, refl, refl, refl, refl)

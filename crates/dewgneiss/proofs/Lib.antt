@@ -4,3 +4,4 @@ pub mod Lent
 pub mod Accepted
 pub mod Results
 pub mod Back
+pub mod Asking

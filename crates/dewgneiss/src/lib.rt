@@ -1,4 +1,6 @@
-// The sealed auction and the sheets, for Rust or C to link: a slice is passed as its address and its length.
+// The sealed auction, the sheets and the tables, for Rust or C to link: a slice is passed as its address and its length.
+mod tables; // tables.rt: one bidder's table of differences
+
 ghost use mathlib.Core.Path.{_≡_};
 ghost use mathlib.Core.List.{[], _∷_};
 ghost use Prim.Native.Nat.{_≤_};

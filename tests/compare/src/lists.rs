@@ -200,10 +200,12 @@ mod tests {
 
     fn reach(lists: &[List], more: &[&str]) {
         let times = |start: &str| lists.iter().flat_map(|l| &l.answers).filter(|a| a.starts_with(start)).count();
-        let numbers = ["01", "02", "03", "04", "06", "07", "08", "11", "12", "13", "14", "15", "16", "17"];
+        let numbers = ["01", "02", "03", "04", "06", "07", "08", "11", "12", "13", "14", "15", "19"];
         for start in numbers.iter().chain(&["0001", "0002", "0003", "00\n0"]).chain(more) {
             assert!(times(start) >= 40, "only {} answers start with {start:?}", times(start));
         }
+        // The console brings the tables as they were left, from the opening on.
+        assert_eq!(["16", "17"].map(times), [0, 0]);
         let stayed = lists.iter().filter(|l| l.machine.is_some()).count();
         assert!(stayed * 5 > lists.len(), "the machine stayed on {stayed} sheets only");
         // Calls that follow an opening which was refused, in an auction that is open.

@@ -1,4 +1,5 @@
-//! Holds the proved code to the second program: through the wrapper, and through the programs `closing_sheet`, `reason_sheet` and `live_console`.
+//! Holds the proved code to the second program: through the wrapper, through the programs `closing_sheet`, `reason_sheet` and `live_console`, and, for live lists
+//! with tables of any kind, through the exported calls of crates/bench_exports.
 //!
 //! `compare [SHEETS] [LISTS] [SEED]`. Its last line is 'N passed, M failed': M comparisons differ, and it fails if M is not 0. The
 //! programs are looked for in `target/bin` of the repository, where `rt` leaves them.
@@ -6,11 +7,13 @@
 mod bytes;
 mod fixed;
 mod floors;
+mod lending;
 mod lent;
 mod lists;
 mod program;
 mod reasons;
 mod sheets;
+mod tables;
 
 use lent::Entry;
 
@@ -48,11 +51,15 @@ fn stage(total: &mut Tally, name: &str, run: impl FnOnce() -> Tally) {
     total.add(tally);
 }
 
-/// How many sheets and lists without floors where nothing is said, and from which seed. Beside them there are half as many with floors, and 10,000 sheets
-/// falling first.
+/// How many sheets and lists without floors where nothing is said, and from which seed. Beside them there are half as many with floors, 10,000 sheets
+/// falling first, five tables for each sheet, and three lists on lent tables for each four.
 const SHEETS: u64 = 24_000;
 const LISTS: u64 = 4_000;
 const SEED: u64 = 20_250_101;
+#[cfg(test)]
+const TABLES: u64 = SHEETS * 5;
+#[cfg(test)]
+const LENT_LISTS: u64 = LISTS * 3 / 4;
 
 /// What the arguments ask for: sheets, lists, seed. Counts above 32 bits are refused, as no run would end.
 fn asked(words: &[String]) -> Option<(u64, u64, u64)> {
@@ -78,9 +85,11 @@ fn main() {
     stage(&mut total, "sheets with floors falling first, through the wrapper", || floors::falling(count / 4, seed));
     stage(&mut total, "lent memory falling first, through the wrapper", || lent::all(Entry::FallingFirst, count / 6, seed));
     stage(&mut total, "sheets of reasons, through the wrapper", || reasons::all(count / 5, seed));
+    stage(&mut total, "tables of differences, through the library", || tables::all(count * 5, seed));
     stage(&mut total, "the programs closing_sheet and reason_sheet", || program::sheets(count / 60, seed));
     stage(&mut total, "live lists, through the program live_console", || lists::all(lists, seed));
     stage(&mut total, "live lists with floors, through the program live_console", || lists::above(lists / 2, seed));
+    stage(&mut total, "live lists on lent tables, through the exported calls", || lending::all(lists * 3 / 4, seed));
     println!("{} passed, {} failed", total.passed, total.failed);
     std::process::exit(i32::from(total.failed > 0));
 }

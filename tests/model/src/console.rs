@@ -1,25 +1,25 @@
-//! The lines of the console program: orders in, an answer for each out, the record kept between.
+//! The lines of the console program: orders in, an answer for each out, the record and its tables kept between.
 //!
 //! `o` + 2 hexadecimal digits items + 2 bidders + 4 for each starting price opens; `f` is the same with 4 digits more for each floor, behind
 //! all starting prices; `r` + 2 digits bidder + 01 or 00 for null + 8 digits item set reports; `e` ends the round; `c` clears; `s` reads the close. Anything else is 06, and so is any longer line
 //! than the program takes. A line that is answered with a number other than 00 changes nothing, an opening included.
 
-use crate::live::{Answer, Call, Record, Report};
+use crate::live::{Answer, Call, Held, Report};
 use crate::sheet::{digits, number, numbers};
 use crate::Kind;
 
 /// The longest line that the program looks at.
 pub const LONGEST: usize = 4_096;
 
-/// The program, with its record.
+/// The program, with its record and its tables.
 pub struct Console {
-    pub record: Record,
+    pub held: Held,
 }
 
 impl Console {
     /// Before any opening the record is the one of zeros, which every call gives 11 on.
     pub fn new() -> Console {
-        Console { record: Record::zeros() }
+        Console { held: Held::zeros() }
     }
 
     /// What is written after a line, the last newline included. The line comes without its newline.
@@ -45,22 +45,22 @@ impl Console {
         };
         let opened = if floors {
             let (start, floors) = amounts.split_at(amounts.len().min(items as usize));
-            Record::open_above(items, bidders, start, floors)
+            Held::open_above(items, bidders, start, floors)
         } else {
-            Record::open(items, bidders, &amounts)
+            Held::open(items, bidders, &amounts)
         };
         match opened {
-            Ok(record) => {
-                self.record = record;
-                format!("00{}\n", digits(self.record.prices()))
+            Ok(held) => {
+                self.held = held;
+                format!("00{}\n", digits(self.held.record.prices()))
             }
             Err(number) => format!("{number:02}\n"),
         }
     }
 
     fn called(&mut self, call: Call) -> String {
-        let answer = self.record.call(call);
-        let prices = digits(self.record.prices());
+        let answer = self.held.call(call);
+        let prices = digits(self.held.record.prices());
         match answer {
             Answer::Refused(number) => format!("{number:02}\n"),
             Answer::Done => "00\n".into(),

@@ -1,7 +1,7 @@
 //! What the comparison runs on: bid sheets of many kinds, with and without floors, damaged ones, and lists of live calls, all from a seed.
 
 use crate::flows;
-use crate::live::{Answer, Call, Phase, Record, Report};
+use crate::live::{Answer, Call, Held, Phase, Record, Report};
 use crate::random::Random;
 use crate::{sheet, Sheet, BIDDERS, ITEMS, TOP};
 
@@ -289,52 +289,80 @@ fn any_bidder(bidders: u32, r: &mut Random) -> u32 {
     }
 }
 
-/// Calls after an opening with the sheet's counts, starting prices and floors. The record is played along, so that the calls have
-/// something to say at each point; the list itself knows nothing of it.
-pub fn calls(sheet: &Sheet, reporting: Reporting, most: usize, r: &mut Random) -> Vec<Call> {
-    let (items, bidders) = (sheet.items as u32, sheet.bidders as u32);
-    let mut record = Record::open_above(items, bidders, &sheet.start, &sheet.floors).expect("the sheet is within the limits");
-    let needed = sheet::live_length(sheet.items, sheet.bidders);
-    let mut calls = Vec::new();
-    // Whether a report that is not the sheet's stands in this round.
-    let mut wrong = false;
-    let disturbed = *r.pick(&[3, 8, 30]);
-    while calls.len() < most {
+/// Makes the calls of a live list one after the other. It is told the record, so that the calls have something to say at each point, and the answers.
+pub struct Caller<'a> {
+    sheet: &'a Sheet,
+    reporting: Reporting,
+    /// How seldom a call comes out of turn.
+    disturbed: usize,
+    /// Whether a report that is not the sheet's stands in this round.
+    wrong: bool,
+}
+
+impl Caller<'_> {
+    pub fn new<'a>(sheet: &'a Sheet, reporting: Reporting, r: &mut Random) -> Caller<'a> {
+        Caller { sheet, reporting, disturbed: *r.pick(&[3, 8, 30]), wrong: false }
+    }
+
+    /// The next call; none where a list that has closed ends.
+    pub fn call(&self, record: &Record, r: &mut Random) -> Option<Call> {
+        let (items, bidders) = (record.items, record.bidders);
         let missing: Vec<u32> = (1..=bidders).filter(|&k| !record.has_reported(k)).collect();
-        let call = if record.phase == Phase::Closed && r.one_in(4) {
-            Call::Read { room: *r.pick(&[0, needed - 1, needed, 271, 300]) }
-        } else if record.phase == Phase::Closed && r.one_in(6) {
-            break;
-        } else if r.one_in(disturbed) {
+        if record.phase == Phase::Closed && r.one_in(4) {
+            let needed = sheet::live_length(items as usize, bidders as usize);
+            return Some(Call::Read { room: *r.pick(&[0, needed - 1, needed, 271, 300]) });
+        }
+        if record.phase == Phase::Closed && r.one_in(6) {
+            return None;
+        }
+        Some(if r.one_in(self.disturbed) {
             match r.within(0, 5) {
                 0 => Call::Read { room: 271 },
                 1 => Call::Clear,
-                2 if reporting == Reporting::Wild || !wrong || r.one_in(4) => Call::End,
+                2 if self.reporting == Reporting::Wild || !self.wrong || r.one_in(4) => Call::End,
                 _ => Call::Report { bidder: any_bidder(bidders, r), report: any_report(items, r) },
             }
         } else if missing.is_empty() {
-            match (reporting, wrong) {
+            match (self.reporting, self.wrong) {
                 (Reporting::BySheet, true) if !r.one_in(6) => Call::Clear,
                 (Reporting::Wild, _) if r.one_in(6) => Call::Clear,
                 _ => Call::End,
             }
         } else {
             let bidder = *r.pick(&missing);
-            let report = match reporting {
-                Reporting::BySheet => flows::demand(sheet.line(bidder as usize), record.prices()),
+            let report = match self.reporting {
+                Reporting::BySheet => flows::demand(self.sheet.line(bidder as usize), record.prices()),
                 Reporting::Wild => any_report(items, r),
             };
             Call::Report { bidder, report }
-        };
-        let before = record.reported;
-        let answer = record.call(call);
+        })
+    }
+
+    /// What became of the call, from who had reported before it to the record after.
+    pub fn answered(&mut self, call: Call, answer: &Answer, before: u64, record: &Record) {
         match (call, answer) {
             (Call::Report { bidder, report }, Answer::Done) => {
-                wrong |= report != flows::demand(sheet.line(bidder as usize), record.prices());
+                self.wrong |= report != flows::demand(self.sheet.line(bidder as usize), record.prices());
             }
-            (_, Answer::Moved(..) | Answer::Done) if before != 0 && record.reported == 0 => wrong = false,
+            (_, Answer::Moved(..) | Answer::Done) if before != 0 && record.reported == 0 => self.wrong = false,
             _ => {}
         }
+    }
+}
+
+/// Calls after an opening with the sheet's counts, starting prices and floors. Record and tables are played along; the list itself knows nothing of them.
+pub fn calls(sheet: &Sheet, reporting: Reporting, most: usize, r: &mut Random) -> Vec<Call> {
+    let opened = Held::open_above(sheet.items as u32, sheet.bidders as u32, &sheet.start, &sheet.floors);
+    let mut held = opened.expect("the sheet is within the limits");
+    let mut caller = Caller::new(sheet, reporting, r);
+    let mut calls = Vec::new();
+    while calls.len() < most {
+        let Some(call) = caller.call(&held.record, r) else {
+            break;
+        };
+        let before = held.record.reported;
+        let answer = held.call(call);
+        caller.answered(call, &answer, before, &held.record);
         calls.push(call);
     }
     calls

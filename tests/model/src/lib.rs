@@ -8,9 +8,9 @@
 //! Each has both orders of the rounds, rising first and falling first ([`Order`]). The live auction is rising first.
 //!
 //! - [`reasons`] prints the sheet of reasons of document 02.
-//! - [`sheet`] reads bid sheets and writes closing sheets; [`live`] is the live auction, [`machine`] the plain machine
-//!   that a live list is held to, [`console`] the lines of the console program.
-//! - [`cases`] is document 01's table; [`random`] and [`generate`] make what else the comparison runs on, from a seed.
+//! - [`sheet`] reads bid sheets and writes closing sheets; [`live`] is the live auction, [`tables`] the tables of differences lent beside its record,
+//!   [`machine`] the plain machine that a live list is held to, [`console`] the lines of the console program.
+//! - [`cases`] is document 01's table; [`random`], [`generate`] and [`lending`] make what else the comparison runs on, from a seed.
 //!
 //! Words: item (pan), bidder (raker), price (rent), floor (lowest rent), surplus (gain; at the close the gain is that of the item named), assignment (naming),
 //! null (no pan), refusal (turned down).
@@ -19,12 +19,14 @@ pub mod cases;
 pub mod console;
 pub mod flows;
 pub mod generate;
+pub mod lending;
 pub mod literal;
 pub mod live;
 pub mod machine;
 pub mod random;
 pub mod reasons;
 pub mod sheet;
+pub mod tables;
 pub mod totals;
 
 /// The highest bid, starting price, floor and price.

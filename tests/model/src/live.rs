@@ -1,7 +1,8 @@
-//! The live auction: the record, its calls, and when a record is well formed (number 11).
+//! The live auction: the record, its calls, when a record is well formed (number 11), and the tables that are lent beside it.
 
 use crate::flows::{self, Demand};
 use crate::sheet::{live_length, write_live};
+use crate::tables::{self, TABLE};
 use crate::{below_floor, Kind, BIDDERS, ITEMS, TOP};
 
 /// A report: null yes or no, beside an item set. It is empty if it says no and the set is empty.
@@ -74,20 +75,20 @@ impl Record {
         }
     }
 
-    /// Opening: 1, 2, 3, 4. The floors are 0.
-    pub fn open(items: u32, bidders: u32, start: &[u16]) -> Result<Record, u8> {
-        Record::open_above(items, bidders, start, &vec![0; start.len()])
+    /// Opening: 1, 2, 3, 4. The floors are 0. The tables are filled for all bids.
+    pub fn open(items: u32, bidders: u32, start: &[u16], tables: &mut [i16]) -> Result<Record, u8> {
+        Record::open_above(items, bidders, start, &vec![0; start.len()], tables)
     }
 
     /// Opening with floors: 1, 2, 3, 4, 18.
-    pub fn open_above(items: u32, bidders: u32, start: &[u16], floors: &[u16]) -> Result<Record, u8> {
+    pub fn open_above(items: u32, bidders: u32, start: &[u16], floors: &[u16], tables: &mut [i16]) -> Result<Record, u8> {
         if items < 1 || items > ITEMS as u32 {
             return Err(1);
         }
         if bidders < 1 || bidders > BIDDERS as u32 {
             return Err(2);
         }
-        if start.len() != items as usize || floors.len() != items as usize {
+        if start.len() != items as usize || floors.len() != items as usize || tables.len() != bidders as usize * TABLE {
             return Err(3);
         }
         if start.iter().any(|&p| p > TOP) {
@@ -99,6 +100,8 @@ impl Record {
         let mut record = Record { items, bidders, ..Record::zeros() };
         record.floors[..floors.len()].copy_from_slice(floors);
         record.prices[..start.len()].copy_from_slice(start);
+        let all = tables::opening(items as usize, TOP);
+        tables.chunks_mut(TABLE).for_each(|part| part.copy_from_slice(&all));
         Ok(record)
     }
 
@@ -192,11 +195,29 @@ impl Record {
         Answer::Moved(kind, set)
     }
 
-    /// Report: 11, 12, 7, 13, 8.
-    fn report(&mut self, bidder: u32, report: Report) -> Answer {
-        let place = bidder.wrapping_sub(1) as usize;
+    /// What record and tables are turned down by before anything is asked of them: 11, 3, 11.
+    fn unfit(&self, tables: &[i16]) -> Option<u8> {
         if !self.well_formed() {
-            Answer::Refused(11)
+            return Some(11);
+        }
+        if tables.len() != self.bidders as usize * TABLE {
+            return Some(3);
+        }
+        let fits = |part: &[i16]| tables::fits(self.items as usize, part, TOP);
+        (!tables.chunks(TABLE).all(fits)).then_some(11)
+    }
+
+    /// A bidder's table narrowed by a report; none where 19 applies.
+    fn narrowed(&self, part: &[i16], report: Report) -> Option<Vec<i16>> {
+        tables::narrowed(self.items as usize, part, self.prices(), report, TOP)
+    }
+
+    /// Report: 11, 3, 11, 12, 7, 13, 8, 19.
+    fn report(&mut self, bidder: u32, report: Report, tables: &[i16]) -> Answer {
+        let place = bidder.wrapping_sub(1) as usize;
+        let explained = |part: &[i16]| tables::explains(self.items as usize, part, self.prices(), report, TOP);
+        if let Some(number) = self.unfit(tables) {
+            Answer::Refused(number)
         } else if self.phase == Phase::Closed {
             Answer::Refused(12)
         } else if bidder < 1 || self.bidders < bidder {
@@ -205,6 +226,8 @@ impl Record {
             Answer::Refused(13)
         } else if unfit(self.items, report) {
             Answer::Refused(8)
+        } else if !explained(&tables[place * TABLE..][..TABLE]) {
+            Answer::Refused(19)
         } else {
             self.reports[place] = report;
             self.reported |= 1 << place;
@@ -212,10 +235,10 @@ impl Record {
         }
     }
 
-    /// Ending a round: 11, 12, 14, then 16 or 17.
-    fn end(&mut self) -> Answer {
-        if !self.well_formed() {
-            return Answer::Refused(11);
+    /// Ending a round: 11, 3, 11, 12, 14, 19, then 16 or 17. A move narrows every table.
+    fn end(&mut self, tables: &mut [i16]) -> Answer {
+        if let Some(number) = self.unfit(tables) {
+            return Answer::Refused(number);
         }
         if self.phase == Phase::Closed {
             return Answer::Refused(12);
@@ -223,6 +246,19 @@ impl Record {
         if self.report_missing() {
             return Answer::Refused(14);
         }
+        let narrowed = tables.chunks(TABLE).zip(self.reports()).map(|(part, &report)| self.narrowed(part, report));
+        let Some(narrowed) = narrowed.collect::<Option<Vec<_>>>() else {
+            return Answer::Refused(19);
+        };
+        let answer = self.ended();
+        if let Answer::Moved(..) = answer {
+            tables.copy_from_slice(&narrowed.concat());
+        }
+        answer
+    }
+
+    /// The round that the reports give, all of them in.
+    fn ended(&mut self) -> Answer {
         let rising = self.rising_set();
         if rising != 0 {
             if self.phase == Phase::Falling {
@@ -269,13 +305,42 @@ impl Record {
         Answer::Sheet(write_live(self.raised, self.lowered, self.prices(), &names))
     }
 
-    /// Answers a call, and leaves the next record here.
-    pub fn call(&mut self, call: Call) -> Answer {
+    /// Answers a call, and leaves the next record here and the tables as they are then.
+    pub fn call(&mut self, call: Call, tables: &mut [i16]) -> Answer {
         match call {
-            Call::Report { bidder, report } => self.report(bidder, report),
-            Call::End => self.end(),
+            Call::Report { bidder, report } => self.report(bidder, report, tables),
+            Call::End => self.end(tables),
             Call::Clear => self.clear(),
             Call::Read { room } => self.read(room),
         }
+    }
+}
+
+/// A record and its tables, each call bringing both as the last one left them.
+#[derive(Clone, Debug, PartialEq, Eq)]
+pub struct Held {
+    pub record: Record,
+    pub tables: Vec<i16>,
+}
+
+impl Held {
+    /// Before any opening.
+    pub fn zeros() -> Held {
+        Held { record: Record::zeros(), tables: Vec::new() }
+    }
+
+    /// An opening with as many tables as bidders.
+    pub fn open(items: u32, bidders: u32, start: &[u16]) -> Result<Held, u8> {
+        Held::open_above(items, bidders, start, &vec![0; start.len()])
+    }
+
+    pub fn open_above(items: u32, bidders: u32, start: &[u16], floors: &[u16]) -> Result<Held, u8> {
+        // Counts out of range are refused before any length is looked at.
+        let mut tables = vec![0; bidders.min(BIDDERS as u32) as usize * TABLE];
+        Ok(Held { record: Record::open_above(items, bidders, start, floors, &mut tables)?, tables })
+    }
+
+    pub fn call(&mut self, call: Call) -> Answer {
+        self.record.call(call, &mut self.tables)
     }
 }

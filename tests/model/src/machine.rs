@@ -1,9 +1,10 @@
 //! The plain machine of "What demand 3 speaks of": fed with a sheet and calls alone, never with an answer or a record. It holds
-//! how many moves it has made, whether it has closed, and the reports that stand.
+//! how many moves it has made, whether it has closed, the reports that stand, and tables, which each move narrows by the sheet's demands.
 
 use crate::flows::{self, Demand};
 use crate::live::{unfit, Answer, Call, Phase, Report};
 use crate::sheet::{live_length, write_live};
+use crate::tables::{self, TABLE};
 use crate::{Kind, Round, Sheet, TOP};
 
 pub struct Machine {
@@ -12,11 +13,14 @@ pub struct Machine {
     pub moves: usize,
     pub closed: bool,
     pub standing: Vec<Option<Report>>,
+    pub tables: Vec<i16>,
 }
 
 impl Machine {
     pub fn new(sheet: &Sheet) -> Machine {
-        Machine { sheet: sheet.clone(), path: flows::path(sheet), moves: 0, closed: false, standing: vec![None; sheet.bidders] }
+        let tables = tables::opening(sheet.items, TOP).repeat(sheet.bidders);
+        let standing = vec![None; sheet.bidders];
+        Machine { sheet: sheet.clone(), path: flows::path(sheet), moves: 0, closed: false, standing, tables }
     }
 
     /// The path's prices after as many rounds as moves were made.
@@ -48,6 +52,17 @@ impl Machine {
         flows::demands(&self.sheet, self.prices())
     }
 
+    /// Number 19 does not apply to the report of the bidder in this place.
+    fn explains(&self, place: usize, report: Report) -> bool {
+        tables::explains(self.sheet.items, &self.tables[place * TABLE..][..TABLE], self.prices(), report, TOP)
+    }
+
+    /// The tables after a move at the machine's prices.
+    fn narrowed(&self) -> Vec<i16> {
+        let narrowed = |(part, report): (&[i16], Demand)| tables::narrowed(self.sheet.items, part, self.prices(), report, TOP);
+        self.tables.chunks(TABLE).zip(self.demands()).flat_map(|each| narrowed(each).expect("the sheet's bids explain")).collect()
+    }
+
     fn report(&mut self, bidder: u32, report: Report) -> Answer {
         if self.closed {
             return Answer::Refused(12);
@@ -55,14 +70,17 @@ impl Machine {
         if bidder < 1 || self.sheet.bidders < bidder as usize {
             return Answer::Refused(7);
         }
-        let place = &mut self.standing[bidder as usize - 1];
-        if place.is_some() {
+        let place = bidder as usize - 1;
+        if self.standing[place].is_some() {
             return Answer::Refused(13);
         }
         if unfit(self.sheet.items as u32, report) {
             return Answer::Refused(8);
         }
-        *place = Some(report);
+        if !self.explains(place, report) {
+            return Answer::Refused(19);
+        }
+        self.standing[place] = Some(report);
         Answer::Done
     }
 
@@ -74,9 +92,11 @@ impl Machine {
                 self.closed = true;
                 return Some(Answer::Closed);
             };
+            let answer = Answer::Moved(next.kind, next.items);
+            self.tables = self.narrowed();
             self.moves += 1;
             self.standing.fill(None);
-            return Some(Answer::Moved(next.kind, next.items));
+            return Some(answer);
         }
         if self.closed {
             return Some(Answer::Refused(12));
@@ -84,6 +104,9 @@ impl Machine {
         let Some(reports) = standing else {
             return Some(Answer::Refused(14));
         };
+        if !reports.iter().enumerate().all(|(place, &report)| self.explains(place, report)) {
+            return Some(Answer::Refused(19));
+        }
         let rising = flows::rising(&reports);
         let at_top = |i: usize| rising >> i & 1 == 1 && self.prices()[i] == TOP;
         match self.phase() {

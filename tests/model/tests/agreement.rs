@@ -1,13 +1,15 @@
 //! Document 01's claim on live lists, between the plain machine and the second program's own record.
 
 use model::generate::{calls, live_sheet, live_sheet_above, Reporting};
-use model::live::{Answer, Call, Phase, Record, Report};
+use model::live::{Answer, Call, Held, Phase, Record, Report};
 use model::machine::Machine;
 use model::random::Random;
-use model::{flows, sheet, Sheet};
+use model::tables::{narrowed, OPTIONS, TABLE};
+use model::{flows, sheet, Sheet, TOP};
 
-/// Whether the record holds the sheet's floors and the machine's prices, rounds, phase and reports.
-fn holds(record: &Record, machine: &Machine, s: &Sheet) -> bool {
+/// Whether record and tables hold the sheet's floors and the machine's prices, rounds, phase, reports and tables.
+fn holds(held: &Held, machine: &Machine, s: &Sheet) -> bool {
+    let record = &held.record;
     let report = |k: usize| machine.standing.get(k).copied().flatten();
     record.items as usize == s.items
         && record.bidders as usize == s.bidders
@@ -17,24 +19,25 @@ fn holds(record: &Record, machine: &Machine, s: &Sheet) -> bool {
         && record.phase == machine.phase()
         && (0..64).all(|k| (record.reported >> k & 1 == 1) == report(k).is_some())
         && (0..64).all(|k| record.reports[k] == report(k).unwrap_or_default())
+        && held.tables == machine.tables
 }
 
-fn opened(s: &Sheet) -> Record {
-    Record::open_above(s.items as u32, s.bidders as u32, &s.start, &s.floors).unwrap()
+fn opened(s: &Sheet) -> Held {
+    Held::open_above(s.items as u32, s.bidders as u32, &s.start, &s.floors).unwrap()
 }
 
 /// Plays a list on both, as far as the machine stays on the sheet; whether it stayed to the end.
 fn agree(s: &Sheet, list: &[Call]) -> bool {
-    let mut record = opened(s);
+    let mut held = opened(s);
     let mut machine = Machine::new(s);
-    assert!(holds(&record, &machine, s));
+    assert!(holds(&held, &machine, s));
     for &call in list {
         let Some(expected) = machine.call(call) else {
             return false;
         };
-        assert_eq!(record.call(call), expected, "{call:?} on {s:?}");
-        assert!(holds(&record, &machine, s), "{call:?} on {s:?}");
-        assert!(record.well_formed(), "{call:?} on {s:?}");
+        assert_eq!(held.call(call), expected, "{call:?} on {s:?}");
+        assert!(holds(&held, &machine, s), "{call:?} on {s:?}");
+        assert!(held.record.well_formed(), "{call:?} on {s:?}");
         if let Answer::Sheet(bytes) = expected {
             let c = flows::close(s);
             assert_eq!(bytes, sheet::write_live(c.raised, c.lowered, &c.prices, &c.names));
@@ -54,7 +57,7 @@ fn machine_and_record_agree() {
 fn agree_on(made: &fn(&mut Random) -> Sheet) {
     let mut r = Random::new(11);
     let (mut stayed, mut closed) = (0, 0);
-    for _ in 0..1_500 {
+    for _ in 0..500 {
         let s = made(&mut r);
         let list = calls(&s, Reporting::BySheet, 600, &mut r);
         if agree(&s, &list) {
@@ -62,10 +65,10 @@ fn agree_on(made: &fn(&mut Random) -> Sheet) {
             closed += usize::from(list.iter().any(|c| matches!(c, Call::Read { room: 271 })));
         }
     }
-    assert!(stayed > 600 && closed > 300, "{stayed} lists stayed on the sheet, {closed} of them read");
+    assert!(stayed > 200 && closed > 100, "{stayed} lists stayed on the sheet, {closed} of them read");
 }
 
-/// Wild lists reach numbers 16 and 17, closes that no sheet has, and records that stay well formed.
+/// Wild lists keep the record well formed. With the tables from the opening on, 16 and 17 never come, and 19 comes at reports alone.
 #[test]
 fn wild_lists_keep_the_record_well_formed() {
     SHEETS.iter().for_each(stays_well_formed_on);
@@ -73,40 +76,69 @@ fn wild_lists_keep_the_record_well_formed() {
 
 fn stays_well_formed_on(made: &fn(&mut Random) -> Sheet) {
     let mut r = Random::new(12);
-    let mut numbers = [0; 18];
+    let mut numbers = [0; 20];
     let mut closed = 0;
-    for _ in 0..1_500 {
+    for _ in 0..600 {
         let s = made(&mut r);
         let list = calls(&s, Reporting::Wild, 300, &mut r);
-        let mut record = opened(&s);
+        let mut held = opened(&s);
         for call in list {
-            let before = record.clone();
-            let answer = record.call(call);
-            assert!(record.well_formed(), "{call:?} on {before:?}");
+            let before = held.clone();
+            let answer = held.call(call);
+            assert!(held.record.well_formed(), "{call:?} on {before:?}");
             if let Answer::Refused(number) = answer {
                 numbers[number as usize] += 1;
-                assert_eq!(record, before);
+                assert_eq!(held, before);
+                assert!(number != 19 || call != Call::End, "{before:?}");
             }
         }
-        closed += usize::from(record.phase == Phase::Closed);
+        closed += usize::from(held.record.phase == Phase::Closed);
     }
-    for number in [3, 7, 8, 12, 13, 14, 15, 16, 17] {
+    for number in [3, 7, 8, 12, 13, 14, 15, 19] {
         assert!(numbers[number] > 20, "number {number} was given {} times", numbers[number]);
     }
-    assert_eq!(numbers[11], 0);
-    assert!(closed > 100);
+    assert_eq!([11, 16, 17].map(|number| numbers[number]), [0; 3]);
+    assert!(closed > 100, "{closed} lists closed");
+}
+
+/// Bids that meet a bidder's table and explain the report that stands: the highest of each item. Null's column has them.
+fn explaining(held: &Held, place: usize) -> Vec<u16> {
+    let (items, part) = (held.record.items as usize, &held.tables[place * TABLE..][..TABLE]);
+    let table = narrowed(items, part, held.record.prices(), held.record.reports[place], TOP).expect("19 was not given");
+    (1..=items).map(|i| table[i * OPTIONS] as u16).collect()
+}
+
+/// A list with its tables from the opening on closes as some bid sheet does, one that explains all reports which were not cleared.
+#[test]
+fn a_close_is_that_of_some_sheet() {
+    let mut r = Random::new(13);
+    let mut closed = 0;
+    for _ in 0..600 {
+        let s = live_sheet_above(&mut r);
+        let mut held = opened(&s);
+        calls(&s, Reporting::Wild, 300, &mut r).into_iter().for_each(|call| _ = held.call(call));
+        if held.record.phase != Phase::Closed {
+            continue;
+        }
+        closed += 1;
+        let bids = (0..s.bidders).flat_map(|place| explaining(&held, place)).collect();
+        let found = Sheet { bids, ..s.clone() };
+        assert_eq!(flows::demands(&found, held.record.prices()), held.record.reports(), "{s:?}");
+        let c = flows::close(&found);
+        let Answer::Sheet(bytes) = held.call(Call::Read { room: 271 }) else { panic!("it has closed") };
+        assert_eq!(bytes, sheet::write_live(c.raised, c.lowered, &c.prices, &c.names), "{s:?}");
+    }
+    assert!(closed > 100, "{closed} lists closed");
 }
 
 /// Each clause of number 11, on records that no list of calls reaches.
 #[test]
 fn records_that_are_not_well_formed() {
-    let good = Record::open(2, 3, &[5, 0]).unwrap();
-    let floored = Record { raised: 5, ..Record::open_above(2, 3, &[5, 4095], &[3, 4092]).unwrap() };
+    let good = Held::open(2, 3, &[5, 0]).unwrap().record;
+    let floored = Record { raised: 5, ..Held::open_above(2, 3, &[5, 4095], &[3, 4092]).unwrap().record };
     let mut closed = good.clone();
-    for bidder in 1..=3 {
-        closed.call(Call::Report { bidder, report: Report { null: true, items: 1 } });
-    }
-    closed.phase = Phase::Closed;
+    closed.reports[..3].fill(Report { null: true, items: 1 });
+    (closed.reported, closed.phase) = (0b111, Phase::Closed);
     // At its floor an item need not be wanted: nobody wants item 2.
     let mut at_floor = closed.clone();
     (at_floor.floors[1], at_floor.prices[1]) = (7, 7);
@@ -117,7 +149,8 @@ fn records_that_are_not_well_formed() {
         assert!(!bad.well_formed(), "{:?} {:?}", bad.prices(), bad.reports());
         let same = bad.clone();
         for call in [Call::Report { bidder: 0, report: Report::default() }, Call::End, Call::Clear, Call::Read { room: 0 }] {
-            assert_eq!(bad.call(call), Answer::Refused(11));
+            // 11 comes before 3: there are no tables at all.
+            assert_eq!(bad.call(call, &mut []), Answer::Refused(11));
             assert_eq!(bad, same);
         }
     };

@@ -2,7 +2,8 @@
 
 use model::cases::{most_rounds, table};
 use model::flows::{self, Demand};
-use model::live::{Answer, Call, Record};
+use model::live::{Answer, Call, Held, Record};
+use model::tables::{self, TABLE};
 use model::{literal, sheet, Kind, ORDERS};
 
 #[test]
@@ -72,45 +73,78 @@ fn bytes_that_are_turned_down() {
 }
 
 /// Reports the same for both bidders of a letting of one item, and ends the round.
-fn both_report(record: &mut Record, null: bool, items: u32) -> Answer {
+fn both_report(held: &mut Held, null: bool, items: u32) -> Answer {
     for bidder in 1..=2 {
         let report = Demand { null, items };
-        assert_eq!(record.call(Call::Report { bidder, report }), Answer::Done);
+        match held.call(Call::Report { bidder, report }) {
+            Answer::Done => (),
+            refused => return refused,
+        }
     }
-    record.call(Call::End)
+    held.call(Call::End)
 }
 
+/// Who reports null at 5 does not bid 5 or more: the item alone at 4 gives 19. Where tables filled anew are lent from there on it does not, and the end gives 16.
 #[test]
 fn sixteen() {
-    let mut record = Record::open(1, 2, &[5]).unwrap();
-    assert_eq!(both_report(&mut record, true, 0), Answer::Moved(Kind::Lowered, 1));
-    assert_eq!(record.prices(), [4]);
-    assert_eq!(both_report(&mut record, false, 1), Answer::Refused(16));
+    let mut held = Held::open(1, 2, &[5]).unwrap();
+    assert_eq!(both_report(&mut held, true, 0), Answer::Moved(Kind::Lowered, 1));
+    assert_eq!(held.record.prices(), [4]);
+    assert_eq!(held.tables[..2], [0, 0]);
+    assert_eq!(held.tables[33..35], [4, 0]);
+    let before = held.clone();
+    assert_eq!(both_report(&mut held, false, 1), Answer::Refused(19));
+    assert_eq!(held, before);
+    held.tables = tables::opening(1, 4095).repeat(2);
+    assert_eq!(both_report(&mut held, false, 1), Answer::Refused(16));
+    assert_eq!(held.tables, tables::opening(1, 4095).repeat(2));
 }
 
+/// No bid explains the item alone at 4,095.
 #[test]
 fn seventeen() {
-    let mut record = Record::open(1, 2, &[4095]).unwrap();
-    assert_eq!(both_report(&mut record, false, 1), Answer::Refused(17));
+    let mut held = Held::open(1, 2, &[4095]).unwrap();
+    assert_eq!(both_report(&mut held, false, 1), Answer::Refused(19));
 }
 
+/// With as many tables as bidders.
 #[test]
 fn a_refused_opening() {
-    assert_eq!(Record::open(33, 65, &[]), Err(1));
-    assert_eq!(Record::open(32, 65, &[]), Err(2));
-    assert_eq!(Record::open(32, 64, &[0; 31]), Err(3));
-    assert_eq!(Record::open(1, 1, &[4096]), Err(4));
-    assert!(Record::open(32, 64, &[4095; 32]).is_ok());
-    assert_eq!(Record::open_above(33, 65, &[], &[]), Err(1));
-    assert_eq!(Record::open_above(32, 65, &[], &[]), Err(2));
-    assert_eq!(Record::open_above(2, 1, &[4, 4], &[4]), Err(3));
-    assert_eq!(Record::open_above(2, 1, &[4, 4], &[4, 4, 0]), Err(3));
-    assert_eq!(Record::open_above(2, 1, &[4], &[4, 4]), Err(3));
-    assert_eq!(Record::open_above(2, 1, &[4096, 4], &[4097, 5]), Err(4));
-    assert_eq!(Record::open_above(2, 1, &[4, 4], &[4, 5]), Err(18));
-    assert_eq!(Record::open_above(1, 1, &[4095], &[4096]), Err(18));
-    assert!(Record::open_above(32, 64, &[4095; 32], &[4095; 32]).is_ok());
-    assert_eq!(Record::zeros().call(Call::Clear), Answer::Refused(11));
+    let open = |items, bidders, start: &[u16]| Held::open(items, bidders, start).map(|_| ());
+    let above = |items, bidders, start: &[u16], floors: &[u16]| Held::open_above(items, bidders, start, floors).map(|_| ());
+    assert_eq!(open(33, 65, &[]), Err(1));
+    assert_eq!(open(32, 65, &[]), Err(2));
+    assert_eq!(open(32, 64, &[0; 31]), Err(3));
+    assert_eq!(open(1, 1, &[4096]), Err(4));
+    assert_eq!(open(32, 64, &[4095; 32]), Ok(()));
+    assert_eq!(above(33, 65, &[], &[]), Err(1));
+    assert_eq!(above(32, 65, &[], &[]), Err(2));
+    assert_eq!(above(2, 1, &[4, 4], &[4]), Err(3));
+    assert_eq!(above(2, 1, &[4, 4], &[4, 4, 0]), Err(3));
+    assert_eq!(above(2, 1, &[4], &[4, 4]), Err(3));
+    assert_eq!(above(2, 1, &[4096, 4], &[4097, 5]), Err(4));
+    assert_eq!(above(2, 1, &[4, 4], &[4, 5]), Err(18));
+    assert_eq!(above(1, 1, &[4095], &[4096]), Err(18));
+    assert_eq!(above(32, 64, &[4095; 32], &[4095; 32]), Ok(()));
+    assert_eq!(Record::zeros().call(Call::Clear, &mut []), Answer::Refused(11));
+}
+
+/// Tables of the wrong length are turned down with 3, before 4 and 18, and any others are filled.
+#[test]
+fn an_opening_with_tables() {
+    let all = tables::opening(2, 4095);
+    for length in [0, 1, TABLE, 3 * TABLE - 1, 3 * TABLE, 3 * TABLE + 1, 4 * TABLE, 64 * TABLE] {
+        let mut tables = vec![-9999; length];
+        for (start, number) in [([4096, 0], 4), ([0, 4], 18), ([4, 4], 0)] {
+            let opened = Record::open_above(2, 3, &start, &[4, 4], &mut tables);
+            let expected = if length == 3 * TABLE { number } else { 3 };
+            assert_eq!(opened.map_or_else(|number| number, |_| 0), expected, "{length} numbers from {start:?}");
+            let filled = expected == 0;
+            assert_eq!(tables, if filled { all.repeat(3) } else { vec![-9999; length] }, "{length} numbers from {start:?}");
+        }
+    }
+    assert_eq!(Record::open(0, 65, &[], &mut []), Err(1));
+    assert_eq!(Record::open(1, 65, &[], &mut []), Err(2));
 }
 
 /// `examples/` has the table as files, each sheet with what comes out beside it.

@@ -1,7 +1,7 @@
 //! The console's lines: what is answered, and that a number changes nothing.
 
 use model::console::{Console, LONGEST};
-use model::live::Record;
+use model::live::Held;
 
 /// A console that has opened example 6 and has raker 1's report.
 fn opened() -> Console {
@@ -57,7 +57,7 @@ fn nothing_is_open_yet() {
             assert_eq!(console.answer(line.as_bytes()), "11\n", "{line}");
         }
         assert_eq!(console.answer(b"o0203"), "03\n");
-        assert_eq!(console.record, Record::zeros());
+        assert_eq!(console.held, Held::zeros());
     }
 }
 
@@ -112,9 +112,9 @@ fn a_number_changes_nothing() {
         ("s", "15\n"),
     ] {
         let mut console = opened();
-        let before = console.record.clone();
+        let before = console.held.clone();
         assert_eq!(console.answer(line.as_bytes()), answer, "{line}");
-        assert_eq!(console.record, before, "{line}");
+        assert_eq!(console.held, before, "{line}");
     }
 }
 
@@ -123,11 +123,11 @@ fn a_number_changes_nothing() {
 fn an_opening_begins_anew() {
     let mut console = opened();
     assert_eq!(console.answer(b"o01020fff"), "000fff\n");
-    assert_eq!(console.record, Record::open(1, 2, &[4095]).unwrap());
+    assert_eq!(console.held, Held::open(1, 2, &[4095]).unwrap());
     assert_eq!(console.answer(b"f02010fff00070fff0003"), "000fff0007\n");
-    assert_eq!(console.record, Record::open_above(2, 1, &[4095, 7], &[4095, 3]).unwrap());
+    assert_eq!(console.held, Held::open_above(2, 1, &[4095, 7], &[4095, 3]).unwrap());
     assert_eq!(console.answer(b"o01020fff"), "000fff\n");
-    assert_eq!(console.record, Record::open(1, 2, &[4095]).unwrap());
+    assert_eq!(console.held, Held::open(1, 2, &[4095]).unwrap());
 }
 
 /// Two items with a floor, opened one above it: the second falls to its floor and no further, and stands there when nobody has it.

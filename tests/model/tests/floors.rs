@@ -7,7 +7,7 @@ use model::generate::{calls, floored, live_sheet, sheet, sheet_above, Reporting,
 use model::literal::{above, close, demand, demands, first_assignment, path};
 use model::random::Random;
 use model::reasons::along;
-use model::{flows, live::Record, sealed_refusal, sealed_refusal_above, totals, Closing, Kind, Round, Sheet};
+use model::{flows, live::Held, sealed_refusal, sealed_refusal_above, totals, Closing, Kind, Round, Sheet};
 use small::{below, sets, small_sheets, vectors};
 
 /// Whether these prices balance: in some assignment everybody has something of their demand, and every item that nobody has stands at its floor.
@@ -126,8 +126,8 @@ fn floors_of_zero() {
     for _ in 0..300 {
         let s = live_sheet(&mut r);
         let counts = (s.items as u32, s.bidders as u32);
-        let mut plain = Record::open(counts.0, counts.1, &s.start).unwrap();
-        let mut floored = Record::open_above(counts.0, counts.1, &s.start, &vec![0; s.items]).unwrap();
+        let mut plain = Held::open(counts.0, counts.1, &s.start).unwrap();
+        let mut floored = Held::open_above(counts.0, counts.1, &s.start, &vec![0; s.items]).unwrap();
         for call in calls(&s, Reporting::Wild, 60, &mut r) {
             assert_eq!(plain.call(call), floored.call(call));
             assert_eq!(plain, floored);

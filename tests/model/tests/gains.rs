@@ -3,7 +3,7 @@
 use model::cases::table;
 use model::generate::{sheet_above, Shape, SHAPES};
 use model::literal::surplus;
-use model::live::{Answer, Call, Record};
+use model::live::{Answer, Call, Held};
 use model::random::Random;
 use model::{flows, sheet, Closing, Sheet, ORDERS};
 
@@ -53,14 +53,14 @@ fn the_fourth_line() {
 }
 
 /// A live auction of the sheet, played to its close.
-fn played(s: &Sheet) -> Record {
-    let mut record = Record::open(s.items as u32, s.bidders as u32, &s.start).unwrap();
+fn played(s: &Sheet) -> Held {
+    let mut held = Held::open(s.items as u32, s.bidders as u32, &s.start).unwrap();
     loop {
-        for (bidder, report) in (1..).zip(flows::demands(s, record.prices())) {
-            assert_eq!(record.call(Call::Report { bidder, report }), Answer::Done);
+        for (bidder, report) in (1..).zip(flows::demands(s, held.record.prices())) {
+            assert_eq!(held.call(Call::Report { bidder, report }), Answer::Done);
         }
-        if record.call(Call::End) == Answer::Closed {
-            return record;
+        if held.call(Call::End) == Answer::Closed {
+            return held;
         }
     }
 }
@@ -70,11 +70,11 @@ fn played(s: &Sheet) -> Record {
 fn room_of_every_length() {
     for case in table() {
         let (bytes, whole) = (sheet::write(&case.sheet), sheet::write_closing(&case.closing));
-        let mut record = played(&case.sheet);
+        let mut held = played(&case.sheet);
         let short = sheet::live_length(case.sheet.items, case.sheet.bidders);
         for room in 0..whole.len() + 3 {
             let read = if room < short { Answer::Refused(3) } else { Answer::Sheet(whole[..short].to_vec()) };
-            assert_eq!(record.call(Call::Read { room }), read, "{}, {room} bytes", case.name);
+            assert_eq!(held.call(Call::Read { room }), read, "{}, {room} bytes", case.name);
             let closed = if room < whole.len() { Err(3) } else { Ok(whole.clone()) };
             assert_eq!(sheet::close(&bytes, room), closed, "{}, {room} bytes", case.name);
         }

@@ -98,17 +98,18 @@ fn the_same_prices_balance() {
     assert!(balanced > 1_000, "{balanced}");
 }
 
-/// K5, one item at 0 and a bid of 0: the report that follows the sheet is null alone, and the read shows no item. With the item beside null, which document 01's
-/// demand had, the live auction closes as well, but not on this sheet.
+/// K5, one item at 0 and a bid of 0: the report that follows the sheet is null alone, and the read shows no item. The item beside null, which document 01's
+/// demand had, is no bidder's demand any more, and gives 19. The item alone is, but not on this sheet.
 #[test]
 fn the_report_that_follows_the_sheet() {
     let k5 = Sheet::new(&[0], &[&[0]]);
-    let report = |items| Call::Report { bidder: 1, report: Report { null: true, items } };
+    let report = |null, items| Call::Report { bidder: 1, report: Report { null, items } };
     let mut machine = Machine::new(&k5);
-    assert_eq!(machine.call(report(0)), Some(Answer::Done));
+    assert_eq!(machine.call(report(true, 0)), Some(Answer::Done));
     assert_eq!(machine.call(Call::End), Some(Answer::Closed));
     assert_eq!(machine.call(Call::Read { room: 21 }), Some(Answer::Sheet(b"000000000000\n0000\n00\n".to_vec())));
     let mut machine = Machine::new(&k5);
-    assert_eq!(machine.call(report(1)), Some(Answer::Done));
+    assert_eq!(machine.call(report(true, 1)), Some(Answer::Refused(19)));
+    assert_eq!(machine.call(report(false, 1)), Some(Answer::Done));
     assert_eq!(machine.call(Call::End), None);
 }

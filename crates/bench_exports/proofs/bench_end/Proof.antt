@@ -1,6 +1,6 @@
 -- `bench_exports::bench_end` meets its contract. Assumes nothing.
 use mathlib.Core.Path.{ap, _∙_}
-use Rattle.live.specs.Calls.{endAnswer, endNext}
+use Rattle.live.specs.Calls.{endAnswer, endNext, endTables}
 use Rattle.live.specs.declared.Auction.{Auction}
 use Rattle.bench_exports.specs.Lent.{endNumberOf, moveIn}
 use Rattle.bench_exports.proofs.Lent.{stands}
@@ -23,15 +23,19 @@ put-move-requires c κs = search needs
 end-number-requires : tie.Need-end-number-requires
 end-number-requires c κs = search needs
 
+same-length : tie.Need-same-length
+same-length c = search needs
+
 returns : tie.Need-returns
 returns c =
-    let x = c .before .before .before .before .before .before .before .before .before .before .end .ensures in
-    let e = c .before .before .before .before .before .before .before .before .before .before .before .record-in .ensures in
-    let answer = x .0 ∙ ap (λ (r : Auction). endAnswer r) e in (
+    let tables = c .before .before .before .before .before .before .before .before .before .before .before .before .before .before .before .before .before .before .before .args .tables .now in
+    let x = c .before .before .before .before .before .before .before .before .before .before .before .end .ensures in
+    let e = c .before .before .before .before .before .before .before .before .before .before .before .before .before .record-in .ensures in
+    let answer = x .0 ∙ ap (λ (r : Auction). endAnswer r tables) e in (
       c .end-number .ensures ∙ ap endNumberOf answer,
       (
         c .before .put-move .ensures ∙ ap moveIn answer,
-        stands _ _ _ _ _ _ _ (x .1 ∙ ap (λ (r : Auction). endNext r) e) (c .before .before .before .leave .ensures),
+        (stands _ _ _ _ _ _ _ (x .1 ∙ ap (λ (r : Auction). endNext r tables) e) (c .before .before .before .leave .ensures), x .2 ∙ ap (λ (r : Auction). endTables r tables) e),
       ),
     )
 
@@ -44,4 +48,5 @@ bench-end-spec =
     leave-requires
     put-move-requires
     end-number-requires
+    same-length
     returns)

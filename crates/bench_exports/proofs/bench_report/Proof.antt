@@ -21,7 +21,7 @@ leave-requires c κs = search needs
 returns : tie.Need-returns
 returns c =
     let a = c .before .before .before .before .before .before .before .before .before .before .before .before .before .before .args in
-    let e = c .before .before .before .before .before .before .before .report .ensures ∙ ap (λ (r : Auction). report r (a .bidder) (saying (a .null) (a .set))) (c .before .before .before .before .before .before .before .before .record-in .ensures) in
+    let e = c .before .before .before .before .before .before .before .report .ensures ∙ ap (λ (r : Auction). report r (a .tables .now) (a .bidder) (saying (a .null) (a .set))) (c .before .before .before .before .before .before .before .before .record-in .ensures) in
     (ap (λ (r : Reply). r .number) e, stands _ _ _ _ _ _ _ (ap (λ (r : Reply). r .next) e) (c .leave .ensures))
 
 pub bench-report-spec : {M : Type 1} → statement M
