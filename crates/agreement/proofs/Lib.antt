@@ -1,3 +1,9 @@
+pub mod Nineteen
+pub mod Agreed
+pub mod AgreedLive
+pub mod AgreedBytes
+pub mod Examples
+pub mod AgreedPlayed
 pub mod Numbers
 pub mod Lent
 pub mod Rounds

@@ -1,96 +1,152 @@
 -- An answer by its order, with room for it. Assumes nothing.
-use Prim.Native.Nat.{ℕ, zero, suc, _≤_, _<_}
-use mathlib.Core.Path.{_≡_, refl, sym, ap, _∙_, subst}
-use mathlib.Core.Bool.{Bool, true, false, cond, true≢false}
-use mathlib.Core.List.{List, []}
+use Prim.Native.Nat.{ℕ, zero, suc, _*_, _≤_, _<_, min}
+use mathlib.Core.Path.{_≡_, refl, sym, ap, ap₂, _∙_, subst}
+use mathlib.Core.Bool.{Bool, true, false, _||_, not, cond, true≢false}
+use mathlib.Core.List.{List, [], _++_}
 use mathlib.Core.Option.{Option, none, some, Option·getD}
 use native.Mathlib.Omega.{arith}
-use lib.Dec.{leb, eqb}
-use lib.ListN.{length, replicate}
+use lib.Dec.{leb, ltb, eqb}
+use lib.ListN.{length, take, drop, replicate}
+use lib.IntN.{ℤ}
 use lib.Seq.{length-sets, length-take-le}
-use borrow.Author.Tests.{lt-ltb, le-ltb}
+use borrow.Author.Tests.{lt-ltb, le-ltb, eq-eqb, ne-eqb, not-false}
 use Rattle.rule.specs.Round.{Round, raised, lowered, closed}
-use Rattle.rule.specs.Refusal.{badItems}
-use Rattle.rule.proofs.Refusal.{none as first-none, in-range}
+use Rattle.rule.proofs.Refusal.{none as first-none}
 use Rattle.lines.specs.Lines.{writtenTo}
 use Rattle.digits.specs.Reading.{_>>=_, numberAt}
 use Rattle.lines.proofs.Stores.{sets-front}
 use Rattle.reports.specs.Report.{saying}
-use Rattle.live.proofs.Opening.{by-number, by-none, zero-floors}
-use Rattle.live.specs.Calls.{openAboveNumber, opened, unopened, openAuction, openAbove, report, clear, endNumber, roundBy, settled, Ending, gives, refused, endAnswer, endNext}
+use Rattle.live.specs.Auction.{wellFormed}
+use Rattle.live.proofs.Opening.{by-number, accepts, zero-floors}
+use Rattle.live.proofs.Opening.{opens as opens-within}
+use Rattle.live.specs.Calls.{openNumber, openAboveNumber, opened, unopened, openAuction, openAbove, filledBy, report, clear, endNumber, roundBy, settled, Ending, gives, refused, endAnswer, endNext, endTables}
 use Rattle.live.specs.declared.Auction.{Auction}
 use Rattle.live.specs.declared.Reply.{Reply}
 use Rattle.live.proofs.Formed.{formed}
-use Rattle.live.proofs.Refusing.{standing}
 use Rattle.console.specs.Orders.{starts, alone, amountsAt, amountsOf, startsOf, floorsOf, opening, reporting, orderOf}
-use Rattle.console.specs.Answers.{Told, opens, replies, ends, reads, toldBy, told}
+use Rattle.console.specs.Answers.{Said, Told, beside, opens, replies, ends, reads, lent, keeps, fills, toldBy, told}
 use Rattle.console.specs.Steps.{isRead, Puts, toldTo, Answers}
 use Rattle.console.specs.declared.Answered.{Answered}
 use Rattle.console.specs.declared.Order.{Order}
 use Rattle.console.specs.declared.Order.the-variants.{Open, OpenAbove, Report, End, Clear, Read, Unknown}
 use Rattle.console.proofs.Amounts.{not-read}
+use Rattle.console.proofs.Enough.{split-starts, split-rest}
 
 -- ---- room
 
-pub no-room : (r : Auction) (line out : List ℕ) → length out < 274 → Answers (toldTo r line (length out)) out out (record { length = 0; next = r })
-no-room r line out l =
-    subst (λ (t : Told). Answers t out out (record { length = 0; next = r })) (sym none-told)
-    (record { next = refl; counted = refl; written = unfold writtenTo in refl; within = omega arith; part = refl })
-  where
-    none-told : toldTo r line (length out) ≡ record { bytes = []; next = r }
-    none-told = unfold toldTo in ap (λ (b : Bool). cond b (record { bytes = []; next = r }) (told r line)) (lt-ltb (length out) 274 l)
+or-true : (a : Bool) → (a || true) ≡ true
+or-true true = refl
+or-true false = refl
 
--- what was put, with the order's answer by its name
-pub answers : (r : Auction) (line out after : List ℕ) (a : Answered) (t : Told) → 274 ≤ length out → told r line ≡ t → Puts t out after a
-    → Answers (toldTo r line (length out)) out after a
-answers r line out after a t l e p =
-    subst (λ (u : Told). Answers u out after a) (sym (all-told ∙ e))
-    (record {
-      next = p .next;
-      counted = p .counted;
-      written = p .put ∙ sets-front out (t .bytes) (omega (arith, l, p .small));
-      within = inside;
-      part = sym (length-take-le (a .length) after inside);
-    })
-  where
-    all-told : toldTo r line (length out) ≡ told r line
-    all-told = unfold toldTo in ap (λ (b : Bool). cond b (record { bytes = []; next = r }) (told r line)) (le-ltb (length out) 274 l)
+module _ (r : Auction) (ts : List ℤ) (line out : List ℕ) where
+  by-test : (b : Bool) → (not (eqb (length ts) 69696) || ltb (length out) 274) ≡ b
+      → toldTo r ts line (length out) ≡ cond b (record { bytes = []; next = r; tables = ts }) (told r ts line)
+  unfolding toldTo
+  by-test b e = ap (λ (x : Bool). cond x (record { bytes = []; next = r; tables = ts }) (told r ts line)) e
 
-    inside : a .length ≤ length after
-    inside = omega (arith, p .counted, p .small, ap length (p .put) ∙ length-sets out 0 (t .bytes), l)
+  nothing : (not (eqb (length ts) 69696) || ltb (length out) 274) ≡ true → Answers (toldTo r ts line (length out)) out out ts (record { length = 0; next = r })
+  nothing e =
+      subst (λ (t : Told). Answers t out out ts (record { length = 0; next = r })) (sym (by-test true e))
+      (record { next = refl; counted = refl; written = unfold writtenTo in refl; tables = refl; within = omega arith; part = refl })
+
+  pub other-tables : (length ts ≡ 69696 → ⊥) → Answers (toldTo r ts line (length out)) out out ts (record { length = 0; next = r })
+  other-tables ne = nothing (ap (λ (b : Bool). not b || ltb (length out) 274) (ne-eqb (length ts) 69696 ne))
+
+  pub no-room : length out < 274 → Answers (toldTo r ts line (length out)) out out ts (record { length = 0; next = r })
+  no-room l = nothing (ap (λ (b : Bool). not (eqb (length ts) 69696) || b) (lt-ltb (length out) 274 l) ∙ or-true (not (eqb (length ts) 69696)))
+
+  -- what was put, with the order's answer by its name
+  pub answers : (after : List ℕ) (left : List ℤ) (a : Answered) (t : Said) → length ts ≡ 69696 → 274 ≤ length out → told r ts line ≡ beside left t
+      → Puts t out after a → Answers (toldTo r ts line (length out)) out after left a
+  answers after left a t long l e p =
+      subst (λ (u : Told). Answers u out after left a) (sym (by-test false room ∙ e))
+      (record {
+        next = p .next;
+        counted = p .counted;
+        written = p .put ∙ sets-front out (t .bytes) (omega (arith, l, p .small));
+        tables = refl;
+        within = inside;
+        part = sym (length-take-le (a .length) after inside);
+      })
+    where
+      room : (not (eqb (length ts) 69696) || ltb (length out) 274) ≡ false
+      room = ap₂ (λ (x y : Bool). not x || y) (eq-eqb (length ts) 69696 long) (le-ltb (length out) 274 l)
+
+      inside : a .length ≤ length after
+      inside = omega (arith, p .counted, p .small, ap length (p .put) ∙ length-sets out 0 (t .bytes), l)
+
+-- ---- the tables that are lent, and those that are kept
+
+module _ (ts : List ℤ) (long : length ts ≡ 69696) (n k : ℕ) (e : k ≡ min (n * 1089) 69696) where
+  cut-is : k ≡ min (n * 1089) (length ts)
+  cut-is = e ∙ ap (min (n * 1089)) (sym long)
+
+  pub part-length : k ≡ length (take k ts)
+  part-length = sym (length-take-le k ts (omega (arith, cut-is)))
+
+  lent-is : take k ts ≡ lent n ts
+  unfolding lent
+  lent-is = split-starts (n * 1089) ts k cut-is
+
+  keeps-is : (f : List ℤ → List ℤ) (left : List ℤ) → left ≡ f (take k ts) → left ++ drop k ts ≡ keeps n (f (lent n ts)) ts
+  unfolding keeps
+  keeps-is f left q = ap₂ (λ (xs ys : List ℤ). xs ++ ys) (q ∙ ap f lent-is) (split-rest (n * 1089) ts k cut-is)
 
 -- ---- orders
 
-module _ (r : Auction) (line : List ℕ) (o : Order) (e : o ≡ orderOf line) where
-  by : (p : Order) → o ≡ p → told r line ≡ toldBy r line p
+module _ (r : Auction) (ts : List ℤ) (line : List ℕ) (o : Order) (e : o ≡ orderOf line) where
+  by : (p : Order) → o ≡ p → told r ts line ≡ toldBy r ts line p
   unfolding told
-  by p q = ap (toldBy r line) (sym e ∙ q)
+  by p q = ap (toldBy r ts line) (sym e ∙ q)
 
-  pub told-open : (m n : ℕ) → o ≡ Open m n → (x : Reply) → x ≡ openAuction m n (amountsOf line) → told r line ≡ opens r x
+  module _ (long : length ts ≡ 69696) (k : ℕ) where
+    pub told-open : (m n : ℕ) → k ≡ min (n * 1089) 69696 → o ≡ Open m n → (x : Reply) (left : List ℤ) → x ≡ openAuction m n (amountsOf line) (take k ts)
+        → left ≡ filledBy (openNumber m n (amountsOf line) (take k ts)) m n (take k ts) → told r ts line ≡ beside (left ++ drop k ts) (opens r x)
+    unfolding toldBy fills
+    told-open m n d q x left f g =
+        by (Open m n) q
+        ∙ sym (ap₂ (λ (l : List ℤ) (y : Reply). beside l (opens r y))
+        (keeps-is ts long n k d (λ l. filledBy (openNumber m n (amountsOf line) l) m n l) left g)
+        (f ∙ ap (openAuction m n (amountsOf line)) (lent-is ts long n k d)))
+
+    pub told-above : (m n : ℕ) → k ≡ min (n * 1089) 69696 → o ≡ OpenAbove m n → (x : Reply) (left : List ℤ)
+        → x ≡ openAbove m n (startsOf m line) (floorsOf m line) (take k ts)
+        → left ≡ filledBy (openAboveNumber m n (startsOf m line) (floorsOf m line) (take k ts)) m n (take k ts)
+        → told r ts line ≡ beside (left ++ drop k ts) (opens r x)
+    unfolding toldBy fills
+    told-above m n d q x left f g =
+        by (OpenAbove m n) q
+        ∙ sym (ap₂ (λ (l : List ℤ) (y : Reply). beside l (opens r y))
+        (keeps-is ts long n k d (λ l. filledBy (openAboveNumber m n (startsOf m line) (floorsOf m line) l) m n l) left g)
+        (f ∙ ap (openAbove m n (startsOf m line) (floorsOf m line)) (lent-is ts long n k d)))
+
+    module _ (d : k ≡ min (r .bidders * 1089) 69696) where
+      pub told-report : (b : ℕ) (null : Bool) (set : ℕ) → o ≡ Report b null set → (x : Reply) → x ≡ report r (take k ts) b (saying null set)
+          → told r ts line ≡ beside ts (replies x)
+      unfolding toldBy
+      told-report b null set q x f =
+          by (Report b null set) q
+          ∙ ap (λ (y : Reply). beside ts (replies y)) (sym (f ∙ ap (λ (l : List ℤ). report r l b (saying null set)) (lent-is ts long (r .bidders) k d)))
+
+      pub told-end : o ≡ End → (a : Ending) (n : Auction) (left : List ℤ) → a ≡ endAnswer r (take k ts) → n ≡ endNext r (take k ts) → left ≡ endTables r (take k ts)
+          → told r ts line ≡ beside (left ++ drop k ts) (ends a n)
+      unfolding toldBy
+      told-end q a n left f g h =
+          let l = lent-is ts long (r .bidders) k d in
+          by End q
+          ∙ sym (ap₂ (λ (x : List ℤ) (y : Said). beside x y)
+          (keeps-is ts long (r .bidders) k d (endTables r) left h)
+          (ap₂ ends (f ∙ ap (endAnswer r) l) (g ∙ ap (endNext r) l)))
+
+  pub told-clear : o ≡ Clear → (x : Reply) → x ≡ clear r → told r ts line ≡ beside ts (replies x)
   unfolding toldBy
-  told-open m n q x f = by (Open m n) q ∙ ap (opens r) (sym f)
+  told-clear q x f = by Clear q ∙ ap (λ (y : Reply). beside ts (replies y)) (sym f)
 
-  pub told-above : (m n : ℕ) → o ≡ OpenAbove m n → (x : Reply) → x ≡ openAbove m n (startsOf m line) (floorsOf m line) → told r line ≡ opens r x
-  unfolding toldBy
-  told-above m n q x f = by (OpenAbove m n) q ∙ ap (opens r) (sym f)
-
-  pub told-report : (b : ℕ) (null : Bool) (set : ℕ) → o ≡ Report b null set → (x : Reply) → x ≡ report r b (saying null set) → told r line ≡ replies x
-  unfolding toldBy
-  told-report b null set q x f = by (Report b null set) q ∙ ap replies (sym f)
-
-  pub told-end : o ≡ End → (a : Ending) (n : Auction) → a ≡ endAnswer r → n ≡ endNext r → told r line ≡ ends a n
-  unfolding toldBy
-  told-end q a n f g = by End q ∙ ap (λ (x : Ending). ends x (endNext r)) (sym f) ∙ ap (ends a) (sym g)
-
-  pub told-clear : o ≡ Clear → (x : Reply) → x ≡ clear r → told r line ≡ replies x
-  unfolding toldBy
-  told-clear q x f = by Clear q ∙ ap replies (sym f)
-
-  pub told-read : o ≡ Read → told r line ≡ reads r
+  pub told-read : o ≡ Read → told r ts line ≡ beside ts (reads r)
   unfolding toldBy
   told-read q = by Read q
 
-  pub told-none : o ≡ Unknown → told r line ≡ replies (record { number = 6; next = r })
+  pub told-none : o ≡ Unknown → told r ts line ≡ beside ts (replies (record { number = 6; next = r }))
   unfolding toldBy replies
   told-none q = by Unknown q
 
@@ -152,24 +208,24 @@ open-amounts line o p e q h = go (isRead (amountsAt line)) refl
 
 -- ---- how many items a record has whose prices are told
 
-module _ (m n : ℕ) (start floors : List ℕ) where
-  turned : (j : ℕ) → openAboveNumber m n start floors ≡ suc j → openAbove m n start floors .number ≡ suc j
+module _ (m n : ℕ) (start floors : List ℕ) (ts : List ℤ) where
+  turned : (j : ℕ) → openAboveNumber m n start floors ts ≡ suc j → openAbove m n start floors ts .number ≡ suc j
   unfolding unopened
-  turned j q = ap (λ (y : Reply). y .number) (by-number m n start floors j q)
+  turned j q = ap (λ (y : Reply). y .number) (by-number m n start floors ts j q)
 
-  in-count : openAboveNumber m n start floors ≡ 0 → opened m n start floors .items ≤ 32
-  unfolding openAboveNumber opened badItems
-  in-count q = in-range 32 m (first-none 0 (badItems m) _ q .0) .1
+  in-count : openAboveNumber m n start floors ts ≡ 0 → opened m n start floors .items ≤ 32
+  unfolding opened
+  in-count q = opens-within m n start floors ts q .0
 
-  pub above-items : (x : Reply) → x ≡ openAbove m n start floors → x .number ≡ 0 → x .next .items ≤ 32
-  above-items x e z = go (openAboveNumber m n start floors) refl
+  pub above-items : (x : Reply) → x ≡ openAbove m n start floors ts → x .number ≡ 0 → x .next .items ≤ 32
+  above-items x e z = go (openAboveNumber m n start floors ts) refl
     where
-      go : (k : ℕ) → openAboveNumber m n start floors ≡ k → x .next .items ≤ 32
-      go zero q = subst (λ (y : Reply). y .next .items ≤ 32) (sym (e ∙ by-none m n start floors q)) (in-count q)
+      go : (k : ℕ) → openAboveNumber m n start floors ts ≡ k → x .next .items ≤ 32
+      go zero q = subst (λ (y : Reply). y .next .items ≤ 32) (sym (e ∙ accepts m n start floors ts q)) (in-count q)
       go (suc j) q = let bad : suc j ≡ 0 = sym (turned j q) ∙ sym (ap (λ (y : Reply). y .number) e) ∙ z in absurd (omega arith)
 
-pub open-items : (m n : ℕ) (start : List ℕ) (x : Reply) → x ≡ openAuction m n start → x .number ≡ 0 → x .next .items ≤ 32
-open-items m n start x e = above-items m n start (replicate m 0) x (e ∙ sym (zero-floors m n start))
+pub open-items : (m n : ℕ) (start : List ℕ) (ts : List ℤ) (x : Reply) → x ≡ openAuction m n start ts → x .number ≡ 0 → x .next .items ≤ 32
+open-items m n start ts x e = above-items m n start (replicate m 0) ts x (e ∙ sym (zero-floors m n start ts))
 
 settled-items : (r : Auction) (o : Round) → settled r o .items ≡ r .items
 unfolding settled
@@ -181,22 +237,22 @@ abbrev is-gives : Ending → ℕ
 is-gives (gives o) = 1
 is-gives (refused x) = 0
 
-module _ (r : Auction) where
-  moves : endNumber r ≡ 0 → endNext r ≡ settled r (roundBy r)
+module _ (r : Auction) (ts : List ℤ) where
+  moves : endNumber r ts ≡ 0 → endNext r ts ≡ settled r (roundBy r)
   unfolding endNext
   moves z = ap (λ (k : ℕ). elim k [ zero ↦ settled r (roundBy r) | suc j ↦ r ]) z
 
-  stops : (j : ℕ) → endNumber r ≡ suc j → endAnswer r ≡ refused (suc j)
+  stops : (j : ℕ) → endNumber r ts ≡ suc j → endAnswer r ts ≡ refused (suc j)
   unfolding endAnswer
   stops j z = ap (λ (k : ℕ). elim k [ zero ↦ gives (roundBy r) | suc i ↦ refused (suc i) ]) z
 
-  well : endNumber r ≡ 0 → r .items ≤ 32
+  well : endNumber r ts ≡ 0 → r .items ≤ 32
   unfolding endNumber
-  well z = formed r (standing r _ z .formed) .max-items
+  well z = formed r (not-false (wellFormed r) (first-none 10 (not (wellFormed r)) _ z .0)) .max-items
 
-  pub end-items : (a : Ending) (next : Auction) (o : Round) → a ≡ endAnswer r → next ≡ endNext r → a ≡ gives o → next .items ≤ 32
-  end-items a next o e f q = go (endNumber r) refl
+  pub end-items : (a : Ending) (next : Auction) (o : Round) → a ≡ endAnswer r ts → next ≡ endNext r ts → a ≡ gives o → next .items ≤ 32
+  end-items a next o e f q = go (endNumber r ts) refl
     where
-      go : (k : ℕ) → endNumber r ≡ k → next .items ≤ 32
+      go : (k : ℕ) → endNumber r ts ≡ k → next .items ≤ 32
       go zero z = let same : next .items ≡ r .items = ap (λ (y : Auction). y .items) (f ∙ moves z) ∙ settled-items r (roundBy r) in omega (arith, same, well z)
       go (suc j) z = absurd (let y : _≡_ {A = ℕ} 0 1 = ap is-gives (sym (stops j z) ∙ sym e ∙ q) in omega arith)

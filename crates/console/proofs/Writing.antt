@@ -19,7 +19,7 @@ use Rattle.lines.proofs.Written.{room-priced}
 use Rattle.live.specs.Calls.{Ending, gives, refused}
 use Rattle.live.specs.declared.Auction.{Auction}
 use Rattle.live.specs.declared.Reply.{Reply}
-use Rattle.console.specs.Answers.{pricesText, roundText, Told, opens, replies, ends}
+use Rattle.console.specs.Answers.{pricesText, roundText, Said, opens, replies, ends}
 use Rattle.console.specs.Steps.{Puts}
 use Rattle.console.specs.declared.Answered.{Answered}
 
@@ -47,7 +47,7 @@ prices-put r out after at l h e =
 
 module _ (r : Auction) (o : Reply) (out after : List ℕ) (a : Answered) where
   -- by the number
-  abbrev by : ℕ → Told
+  abbrev by : ℕ → Said
   by x = elim x [ zero ↦ record { bytes = numberText 0 ++ pricesText (o .next); next = o .next } | suc j ↦ record { bytes = numberLine (suc j); next = r } ]
 
   opens-as : o .number ≡ 0 → opens r o ≡ record { bytes = numberText 0 ++ pricesText (o .next); next = o .next }
@@ -61,7 +61,7 @@ module _ (r : Auction) (o : Reply) (out after : List ℕ) (a : Answered) where
 
   -- an opening that is turned down
   pub open-kept : (o .number ≡ 0 → ⊥) → Puts (replies (record { number = o .number; next = r })) out after a → Puts (opens r o) out after a
-  open-kept ne p = subst (λ (t : Told). Puts t out after a) (opens-not (o .number) refl ne) p
+  open-kept ne p = subst (λ (t : Said). Puts t out after a) (opens-not (o .number) refl ne) p
 
   -- and one that is not
   pub open-put : (mid : List ℕ) → o .number ≡ 0 → o .next .items ≤ 32 → 274 ≤ length out → mid ≡ cond (ltb (length out) 2) out (sets out 0 (numberText 0))
@@ -70,7 +70,7 @@ module _ (r : Auction) (o : Reply) (out after : List ℕ) (a : Answered) where
       let e = two-put out mid 0 (omega arith) two in
       let long : length (numberText 0 ++ pricesText (o .next)) ≡ 3 + 4 * o .next .items =
       length-append (numberText 0) (pricesText (o .next)) ∙ (let p = prices-long (o .next) in omega (arith, text-long 0, p)) in
-      subst (λ (t : Told). Puts t out after a) (sym (opens-as z))
+      subst (λ (t : Said). Puts t out after a) (sym (opens-as z))
       (record {
         next = ap (λ (b : Answered). b .next) q;
         counted = ap (λ (b : Answered). b .length) q ∙ sym long;
@@ -103,7 +103,7 @@ module _ (out a b after : List ℕ) (kind set : ℕ) (long : 12 ≤ length out) 
         ∙ sets-then out 0 2 (numberText 0) (hex 2 kind ++ hex 8 set) (omega (arith, text-long 0))
 
 -- the answer to an end that was not turned down
-abbrev pub movedBytes : ℕ → ℕ → Auction → Told
+abbrev pub movedBytes : ℕ → ℕ → Auction → Said
 movedBytes kind set next = record { bytes = numberText 0 ++ (hex 2 kind ++ hex 8 set) ++ pricesText next; next = next }
 
 front-long : (kind set : ℕ) → length (numberText 0 ++ (hex 2 kind ++ hex 8 set)) ≡ 12

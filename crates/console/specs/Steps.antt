@@ -1,15 +1,16 @@
 -- What the console's functions answer. Assumes nothing: these are definitions.
 use Prim.Native.Nat.{ℕ, _≤_}
 use mathlib.Core.Path.{_≡_}
-use mathlib.Core.Bool.{Bool, true, false, cond}
+use mathlib.Core.Bool.{Bool, true, false, _||_, not, cond}
 use mathlib.Core.List.{List, []}
 use mathlib.Core.Option.{Option, none, some}
 use lib.Dec.{ltb, eqb}
 use lib.ListN.{length, take}
+use lib.IntN.{ℤ}
 use lib.Seq.{sets}
 use Rattle.lines.specs.Lines.{writtenTo}
 use Rattle.live.specs.declared.Auction.{Auction}
-use Rattle.console.specs.Answers.{Told, told}
+use Rattle.console.specs.Answers.{Said, Told, told}
 use Rattle.console.specs.declared.Answered.{Answered}
 use Rattle.console.specs.declared.Order.{Order}
 use Rattle.console.specs.declared.Order.the-variants.{Open, OpenAbove, End, Clear, Read, Unknown}
@@ -29,21 +30,24 @@ unfoldable pub letterOrder : ℕ → Order
 letterOrder b = cond (eqb b 101) End (cond (eqb b 99) Clear (cond (eqb b 115) Read Unknown))
 
 -- an answer was put at the front of bytes that have room for any
-pub record Puts (t : Told) (before after : List ℕ) (a : Answered) : Type 0 where
+pub record Puts (t : Said) (before after : List ℕ) (a : Answered) : Type 0 where
   pub next : a .next ≡ t .next
   pub counted : a .length ≡ length (t .bytes)
   pub small : length (t .bytes) ≤ 274
   pub put : after ≡ sets before 0 (t .bytes)
 
--- what is answered with room for so many bytes: the longest answer has 274, and where there is no room for that, nothing is done
-unfoldable pub toldTo : Auction → List ℕ → (room : ℕ) → Told
-toldTo r line room = cond (ltb room 274) (record { bytes = []; next = r }) (told r line)
+-- what is answered with room for so many bytes: the longest answer has 274. Where there is no room for that, or the tables are not those of 64 bidders, nothing
+-- is done
+unfoldable pub toldTo : Auction → List ℤ → List ℕ → (room : ℕ) → Told
+toldTo r ts line room = cond (not (eqb (length ts) 69696) || ltb room 274) (record { bytes = []; next = r; tables = ts }) (told r ts line)
 
--- the record to keep, how many bytes were answered, and the lent bytes afterwards: the answer at their front, the others as they came
-pub record Answers (t : Told) (before after : List ℕ) (a : Answered) : Type 0 where
+-- the record to keep, how many bytes were answered, the lent bytes afterwards, with the answer at their front and the others as they came, and the tables
+-- afterwards
+pub record Answers (t : Told) (before after : List ℕ) (left : List ℤ) (a : Answered) : Type 0 where
   pub next : a .next ≡ t .next
   pub counted : a .length ≡ length (t .bytes)
   pub written : after ≡ writtenTo before (t .bytes)
+  pub tables : left ≡ t .tables
   -- so the answer is a part of the bytes afterwards
   pub within : a .length ≤ length after
   pub part : a .length ≡ length (take (a .length) after)

@@ -21,7 +21,7 @@ ghost use Rattle.digits.specs.Digits.{hex};
 ghost use Rattle.lines.specs.Lines.{numberText};
 ghost use Rattle.digits.specs.Reading.{numberAt};
 ghost use Rattle.rule.specs.Round.{Round};
-ghost use Rattle.live.specs.Calls.{openAuction, openAbove, endingOf, gives};
+ghost use Rattle.live.specs.Calls.{openNumber, openAboveNumber, openAuction, openAbove, filledBy, endingOf, gives};
 ghost use Rattle.console.specs.Orders.{opening, reporting, orderOf, amountsAt, amountsOf, startsOf, floorsOf};
 ghost use Rattle.console.specs.Answers.{pricesText, opens, replies, ends, reads};
 ghost use Rattle.console.specs.Steps.{openBy, letterOrder, isRead, Puts, toldTo, Answers};
@@ -130,33 +130,33 @@ fn least(a: usize, b: usize) -> usize
 }
 
 // Opens with the line's amounts, all of them starting prices.
-fn open_by(line: &[u8], items: usize, bidders: usize) -> Reply
+fn open_by(line: &[u8], items: usize, bidders: usize, tables: &mut [i16]) -> Reply
     requires { ⌜ isRead (amountsAt (now line)) ≡ true ⌝ }
-    ensures { λ r. ⌜ r ≡ openAuction items bidders (amountsOf (now (line .entry))) ⌝ }
+    ensures { λ r. ⌜ (r ≡ openAuction items bidders (amountsOf (now (line .entry))) (now (tables .entry))) × (now (tables .exit) ≡ filledBy (openNumber items bidders (amountsOf (now (line .entry))) (now (tables .entry))) items bidders (now (tables .entry))) ⌝ }
 {
     let amounts = first_amounts(line);
     let count = least(rest(line) / 4, 65);
-    live::open(items, bidders, &amounts[..count])
+    live::open(items, bidders, &amounts[..count], tables)
 }
 
 // Opens with amounts: a starting price for each item, and the floors behind them.
-fn open_split(items: usize, bidders: usize, amounts: &[u16]) -> Reply
-    ensures { λ r. ⌜ r ≡ openAbove items bidders (take items (now (amounts .entry))) (drop items (now (amounts .entry))) ⌝ }
+fn open_split(items: usize, bidders: usize, amounts: &[u16], tables: &mut [i16]) -> Reply
+    ensures { λ r. ⌜ (r ≡ openAbove items bidders (take items (now (amounts .entry))) (drop items (now (amounts .entry))) (now (tables .entry))) × (now (tables .exit) ≡ filledBy (openAboveNumber items bidders (take items (now (amounts .entry))) (drop items (now (amounts .entry))) (now (tables .entry))) items bidders (now (tables .entry))) ⌝ }
 {
     let split = least(items, amounts.len());
     let start = &amounts[..split];
     let floors = &amounts[split..];
-    live::open_above(items, bidders, start, floors)
+    live::open_above(items, bidders, start, floors, tables)
 }
 
 // Opens with the line's amounts, starting prices and floors.
-fn open_above_by(line: &[u8], items: usize, bidders: usize) -> Reply
+fn open_above_by(line: &[u8], items: usize, bidders: usize, tables: &mut [i16]) -> Reply
     requires { ⌜ isRead (amountsAt (now line)) ≡ true ⌝ }
-    ensures { λ r. ⌜ r ≡ openAbove items bidders (startsOf items (now (line .entry))) (floorsOf items (now (line .entry))) ⌝ }
+    ensures { λ r. ⌜ (r ≡ openAbove items bidders (startsOf items (now (line .entry))) (floorsOf items (now (line .entry))) (now (tables .entry))) × (now (tables .exit) ≡ filledBy (openAboveNumber items bidders (startsOf items (now (line .entry))) (floorsOf items (now (line .entry))) (now (tables .entry))) items bidders (now (tables .entry))) ⌝ }
 {
     let amounts = first_amounts(line);
     let count = least(rest(line) / 4, 65);
-    open_split(items, bidders, &amounts[..count])
+    open_split(items, bidders, &amounts[..count], tables)
 }
 
 // The order of a line that starts with o, or, above floors, with f.
@@ -328,24 +328,52 @@ fn shown(out: &mut [u8], held: Auction) -> Answered
     }
 }
 
-// Answers a line: what is written to the front of `out`, and the record to keep. Where `out` has fewer than 274 bytes nothing is done.
-pub fn answer(held: Auction, line: &[u8], out: &mut [u8]) -> Answered
-    ensures { λ r. ⌜ Answers (toldTo held (now (line .entry)) (length (now (out .entry)))) (now (out .entry)) (now (out .exit)) r ⌝ }
+// How many numbers of the tables are lent for so many bidders: 1,089 for each, and all of them for more than 64.
+fn cut(bidders: usize) -> usize
+    ensures { λ r. ⌜ r ≡ min (bidders * 1089) 69696 ⌝ }
 {
+    if bidders <= 64 {
+        return bidders * 1089;
+    }
+    69696
+}
+
+// Answers a line: what is written to the front of `out`, the record to keep, and the tables, which have room for 64 bidders'. Where they have not 69,696
+// numbers, or `out` has fewer than 274 bytes, nothing is done.
+pub fn answer(held: Auction, line: &[u8], out: &mut [u8], tables: &mut [i16]) -> Answered
+    ensures { λ r. ⌜ Answers (toldTo held (now (tables .entry)) (now (line .entry)) (length (now (out .entry)))) (now (out .entry)) (now (out .exit)) (now (tables .exit)) r ⌝ }
+{
+    if tables.len() != 69696 {
+        return Answered {
+            length: 0,
+            next: held,
+        };
+    }
     if out.len() < 274 {
         return Answered {
             length: 0,
             next: held,
         };
     }
+    let own = cut(held.bidders);
     let o = order_of(line);
     match o {
-        Order::Open(items, bidders) => opened(out, held, open_by(line, items, bidders)),
-        Order::OpenAbove(items, bidders) => {
-            opened(out, held, open_above_by(line, items, bidders))
+        Order::Open(items, bidders) => {
+            let n = cut(bidders);
+            opened(out, held, open_by(line, items, bidders, &mut tables[..n]))
         }
-        Order::Report(bidder, null, set) => replied(out, held.report(bidder, null, set)),
-        Order::End => ended(out, held.end()),
+        Order::OpenAbove(items, bidders) => {
+            let n = cut(bidders);
+            opened(
+                out,
+                held,
+                open_above_by(line, items, bidders, &mut tables[..n]),
+            )
+        }
+        Order::Report(bidder, null, set) => {
+            replied(out, held.report(bidder, null, set, &tables[..own]))
+        }
+        Order::End => ended(out, held.end(&mut tables[..own])),
         Order::Clear => replied(out, held.clear()),
         Order::Read => shown(out, held),
         Order::Unknown => replied(

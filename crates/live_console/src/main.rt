@@ -1,4 +1,4 @@
-// The live auction on standard input and output: each line is answered at once, and the record is kept between. Before any opening the record
+// The live auction on standard input and output: each line is answered at once, and the record and the tables are kept between. Before any opening the record
 // is the one of zeros. A line of more than 4,096 bytes is none of the console's lines; a last line without a newline is answered like any other.
 use libc::STDIN_FILENO;
 use libc::STDOUT_FILENO;
@@ -29,10 +29,10 @@ fn answered(filled: usize, line: &[u8]) -> usize
 }
 
 // Answers the line, and begins the next.
-fn answer(kept: Kept, line: &[u8]) -> Kept {
+fn answer(kept: Kept, line: &[u8], tables: &mut [i16]) -> Kept {
     let mut out = io::buffer();
     let count = answered(kept.filled, line);
-    let told = console::answer(kept.record, &line[..count], &mut out);
+    let told = console::answer(kept.record, &line[..count], &mut out, tables);
     let length = told.length;
     io::write_all(STDOUT_FILENO, &out[..length]);
     let record = told.next;
@@ -47,9 +47,9 @@ fn put(line: &mut [u8], at: usize, byte: u8) {
 }
 
 // One byte more.
-fn enter(kept: Kept, line: &mut [u8], byte: u8) -> Kept {
+fn enter(kept: Kept, line: &mut [u8], tables: &mut [i16], byte: u8) -> Kept {
     if byte == b'\n' {
-        return answer(kept, line);
+        return answer(kept, line, tables);
     }
     let at = kept.filled;
     if line.len() < at {
@@ -63,22 +63,22 @@ fn enter(kept: Kept, line: &mut [u8], byte: u8) -> Kept {
 }
 
 // Byte after byte.
-fn enter_all(kept: Kept, line: &mut [u8], bytes: &[u8]) -> Kept {
+fn enter_all(kept: Kept, line: &mut [u8], tables: &mut [i16], bytes: &[u8]) -> Kept {
     let mut next = kept;
     let mut i: usize = 0;
     while i < bytes.len() {
-        next = enter(next, line, bytes[i]);
+        next = enter(next, line, tables, bytes[i]);
         i += 1;
     }
     next
 }
 
 // The end of the input: what is in is a line.
-fn finish(kept: Kept, line: &[u8]) -> Turn {
+fn finish(kept: Kept, line: &[u8], tables: &mut [i16]) -> Turn {
     if kept.filled == 0 {
         return Turn { kept, more: false };
     }
-    let last = answer(kept, line);
+    let last = answer(kept, line, tables);
     Turn {
         kept: last,
         more: false,
@@ -86,14 +86,14 @@ fn finish(kept: Kept, line: &[u8]) -> Turn {
 }
 
 // Reads what there is, and answers each line that it completes.
-fn take_turn(kept: Kept, line: &mut [u8]) -> Turn {
+fn take_turn(kept: Kept, line: &mut [u8], tables: &mut [i16]) -> Turn {
     let mut bytes = io::buffer();
     let got = libc::read(STDIN_FILENO, &mut bytes);
     let n = io::count(got, &bytes);
     if n == 0 {
-        return finish(kept, line);
+        return finish(kept, line, tables);
     }
-    let next = enter_all(kept, line, &bytes[..n]);
+    let next = enter_all(kept, line, tables, &bytes[..n]);
     Turn {
         kept: next,
         more: true,
@@ -102,20 +102,21 @@ fn take_turn(kept: Kept, line: &mut [u8]) -> Turn {
 
 // The record of zeros: that of an opening with no items.
 fn zeros() -> Auction {
-    let reply = live::open(0, 0, &[0]);
+    let mut none = [0i16; 1];
+    let reply = live::open(0, 0, &[0], &mut none);
     reply.next
 }
 
 // A proved loop has to end, and nothing says that the input does: the turns are counted down, from a number that no run uses up. After that
 // many reads the program would end.
-fn run(line: &mut [u8]) {
+fn run(line: &mut [u8], tables: &mut [i16]) {
     let mut kept = Kept {
         record: zeros(),
         filled: 0,
     };
     let mut turns = u64::MAX;
     while turns > 0 {
-        let t = take_turn(kept, line);
+        let t = take_turn(kept, line, tables);
         if !t.more {
             return;
         }
@@ -124,7 +125,9 @@ fn run(line: &mut [u8]) {
     }
 }
 
+// The tables have room for 64 bidders', 1,089 numbers each.
 fn main() {
     let mut line = io::buffer();
-    run(&mut line);
+    let mut tables = [0i16; 69696];
+    run(&mut line, &mut tables);
 }

@@ -1,4 +1,5 @@
 // A line of the input, 154 bytes: 48 with a letter and what is asked in words, then numbers in hexadecimal digits, each at its place.
+use crate::tables;
 use digits::Number;
 use live::Auction;
 use live::Phase;
@@ -55,6 +56,19 @@ fn bidders(line: &[u8; 106], upper: usize, lower: usize) -> u64 {
     let high = number(line, upper, 8) as u64;
     let low = number(line, lower, 8) as u64;
     (high << 32) | low
+}
+
+// How the tables are lent: 1 one number too few, 2 one too many, else all of them.
+pub(crate) fn lending(line: &[u8; 106]) -> u32 {
+    number(line, 19, 2)
+}
+
+// A number of a table: below 0 where the first two digits are not 0, and how much in four.
+pub(crate) fn signed(line: &[u8; 106], sign: usize, at: usize) -> i16 {
+    tables::signed(
+        number(line, sign, 2) != 0,
+        (number(line, at, 4) % 4097) as u16,
+    )
 }
 
 fn phase(line: &[u8; 106]) -> Phase {

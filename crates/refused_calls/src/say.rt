@@ -1,4 +1,5 @@
 // Numbers and answers as text.
+use crate::tables;
 use live::Ended;
 use live::Kind;
 
@@ -38,13 +39,23 @@ pub(crate) fn ended(e: Ended) {
     }
 }
 
-// The record handed back is as the one given, or not.
-pub(crate) fn kept(same: bool) {
-    if same {
+// Record and tables are as they were given, or the record is not, or the tables are not.
+pub(crate) fn kept(same: bool, tables: bool) {
+    if !tables {
+        io::write_all(1, b" changed, tables too");
+    } else if same {
         io::write_all(1, b" kept");
     } else {
         io::write_all(1, b" changed");
     }
+}
+
+// A number of a table.
+pub(crate) fn signed(x: i16) {
+    if x < 0 {
+        io::write_all(1, b"-");
+    }
+    io::print_decimal(1, tables::amount(x, x < 0));
 }
 
 // The record beside an opening.

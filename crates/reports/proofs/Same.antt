@@ -31,3 +31,8 @@ pub same-self : (d : Demand) → sameDemand d d ≡ true
 unfolding sameDemand
 same-self d =
     and-both (sameBool (d .null) (d .null)) (eqb (d .items) (d .items)) (bool-same (d .null) (d .null) refl) (eq-eqb (d .items) (d .items) refl)
+
+-- K5: null alone, and null with an item beside it, are two reports
+pub beside-null : sameDemand (record { null = true; items = 0 }) (record { null = true; items = 1 }) ≡ false
+unfolding sameDemand sameBool
+beside-null = refl

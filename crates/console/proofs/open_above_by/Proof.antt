@@ -1,9 +1,11 @@
 -- `console::open_above_by` meets its contract. Assumes nothing.
-use mathlib.Core.Path.{_∙_}
+use Prim.Native.Nat.{ℕ}
+use mathlib.Core.Path.{ap, _∙_}
 use borrow.Author.Needs.{needs}
-use Rattle.console.specs.Orders.{startsOf, floorsOf}
+use Rattle.live.specs.Calls.{filledBy}
+use Rattle.console.specs.Orders.{amountsOf, startsOf, floorsOf}
 use Rattle.console.proofs.Amounts.{read-count}
-use Rattle.console.proofs.Enough.{first-65-above, part-length}
+use Rattle.console.proofs.Enough.{first-65-above, number-65-above, part-length}
 use Rattle.console.proofs.open_above_by.Statement.{statement}
 use Rattle.console.proofs.open_above_by.Tie as tie
 
@@ -25,9 +27,19 @@ slice-aggregate-open-split c = part-length _ _ _ _ (c .before .before .before .f
 open-split-requires : tie.Need-open-split-requires
 open-split-requires c κs = search needs
 
+same-length : tie.Need-same-length
+same-length c = search needs
+
 returns : tie.Need-returns
 unfolding startsOf floorsOf
-returns c = c .open-split .ensures ∙ first-65-above _ _ _ _ _ (c .before .before .before .before .first-amounts .ensures) (read-count (c .before .before .before .before .before .before .args .line .now) (c .before .before .before .before .before .before .pre) _ _ (c .before .before .before .rest .ensures) (c .before .before .least .ensures))
+returns c =
+    let s = c .before .before .before .before .before .before .before .before in
+    let ts = s .args .tables .now in
+    let xs = amountsOf (s .args .line .now) in
+    let k = read-count (s .args .line .now) (s .pre) _ _ (c .before .before .before .before .before .rest .ensures) (c .before .before .before .before .least .ensures) in (
+      c .before .open-split .ensures .0 ∙ first-65-above (s .args .items) (s .args .bidders) ts xs _ _ (c .before .before .before .before .before .before .first-amounts .ensures) k,
+      c .before .open-split .ensures .1 ∙ ap (λ (x : ℕ). filledBy x (s .args .items) (s .args .bidders) ts) (number-65-above (s .args .items) (s .args .bidders) ts xs _ _ (c .before .before .before .before .before .before .first-amounts .ensures) k),
+    )
 
 pub open-above-by-spec : {M : Type 1} → statement M
 open-above-by-spec =
@@ -39,4 +51,5 @@ open-above-by-spec =
     array-share-prefix-amounts
     slice-aggregate-open-split
     open-split-requires
+    same-length
     returns)

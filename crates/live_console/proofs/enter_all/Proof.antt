@@ -8,13 +8,13 @@ use Rattle.live_console.proofs.enter_all.Statement.{statement}
 use Rattle.live_console.proofs.enter_all.Tie as tie
 
 abbrev Inv-loop : tie.InvT-loop
-Inv-loop line₀ bytes next₀ i₀ line next i = (length line ≡ length line₀) × (i ≤ length bytes)
+Inv-loop line₀ tables₀ bytes next₀ i₀ line tables next i = (length line ≡ length line₀) × (length tables ≡ length tables₀) × (i ≤ length bytes)
 
 abbrev μ-loop : tie.MeasureT-loop
-μ-loop line₀ bytes next₀ i₀ line next i = length bytes - i
+μ-loop line₀ tables₀ bytes next₀ i₀ line tables next i = length bytes - i
 
 loop-holds : tie.Need-loop-holds Inv-loop μ-loop
-loop-holds c = (refl, omega arith)
+loop-holds c = (refl, refl, omega arith)
 
 shared-slice-read-enter : tie.Need-shared-slice-read-enter Inv-loop μ-loop
 shared-slice-read-enter c = search needs
@@ -34,6 +34,9 @@ loop-again c = search needs
 same-length : tie.Need-same-length Inv-loop μ-loop
 same-length c = search needs
 
+same-length-2 : tie.Need-same-length-2 Inv-loop μ-loop
+same-length-2 c = search needs
+
 returns : tie.Need-returns Inv-loop μ-loop
 returns c = search needs
 
@@ -50,4 +53,5 @@ enter-all-spec =
     loop-less
     loop-again
     same-length
+    same-length-2
     returns)
