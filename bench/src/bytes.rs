@@ -21,9 +21,9 @@ extern "C" {
     ) -> bool;
 }
 
-/// The bytes of the longest closing sheet, and of the longest that a live read gives.
+/// The bytes of the longest closing sheet, and of its first three lines.
 const LONGEST: usize = dewgneiss::LONGEST_CLOSING;
-pub const LONGEST_LIVE: usize = sheet::live_length(32, 64);
+const THREE_LINES: usize = sheet::live_length(32, 64);
 
 /// The value of each digit; any other byte is at least 16.
 const VALUES: [u8; 256] = {
@@ -140,13 +140,13 @@ impl Said {
         Said { rounds: [c.raised, c.lowered], prices, names: c.names.try_into().expect("64 bidders"), gains: c.gains }
     }
 
-    fn proved(&self, out: &mut [u8; LONGEST_LIVE]) -> bool {
+    fn proved(&self, out: &mut [u8; THREE_LINES]) -> bool {
         let [raised, lowered] = self.rounds;
         // SAFETY: the address and the length are those of one array, lent to this call alone; the rest may be anything.
         unsafe { bench_write_closing(out.as_mut_ptr(), out.len(), 32, 64, raised, lowered, &self.prices, &self.names) }
     }
 
-    fn plain(&self, out: &mut [u8; LONGEST_LIVE]) -> bool {
+    fn plain(&self, out: &mut [u8; THREE_LINES]) -> bool {
         write_closing(out, self.rounds, &self.prices, &self.names)
     }
 
@@ -176,9 +176,9 @@ pub fn table(turns: usize, reading: &mut f64) -> usize {
         assert_eq!((proved(&good[k], &mut a), close(&good[k], &mut b)), (0, 0));
         let expected = said[k].second_program();
         assert_eq!([&a[..], &b], [&expected[..]; 2]);
-        let [mut a, mut b] = [[0; LONGEST_LIVE]; 2];
+        let [mut a, mut b] = [[0; THREE_LINES]; 2];
         assert!(said[k].proved(&mut a) && said[k].plain(&mut b));
-        assert_eq!([&a[..], &b], [&expected[..LONGEST_LIVE]; 2]);
+        assert_eq!([&a[..], &b], [&expected[..THREE_LINES]; 2]);
     }
     if turns > 0 {
         println!("\n| sheets of 32 items and 64 bidders, as bytes | proved, ns | plain Rust, ns | ratio |");
@@ -199,7 +199,7 @@ pub fn table(turns: usize, reading: &mut f64) -> usize {
             }],
         );
         // A hundred calls for each reading of the clock.
-        let [mut a, mut b] = [[0; LONGEST_LIVE]; 2];
+        let [mut a, mut b] = [[0; THREE_LINES]; 2];
         let write = race(
             turns,
             said.len(),

@@ -1,6 +1,5 @@
-//! The live calls beside plain Rust, each on records and tables of 32 items and 64 bidders that the path of a sheet comes by.
+//! The live calls beside plain Rust, each on records and tables of 32 items and 40 bidders, the most there are, that the path of a sheet comes by.
 
-use crate::bytes::LONGEST_LIVE;
 use crate::race;
 use crate::record::{Calls, Record};
 use crate::sheets::{anywhere_above, random, random_above};
@@ -8,8 +7,9 @@ use live_calls::{done, Lent};
 use model::flows;
 use model::live::{Answer, Call, Held, Phase, Report};
 use model::random::Random;
+use model::sheet::LONGEST_LIVE;
 use model::tables::{narrowed, OPTIONS, TABLE};
-use model::{Kind, Round, Sheet, TOP};
+use model::{Kind, Round, Sheet, LIVE_BIDDERS, TOP};
 use std::hint::black_box;
 
 impl Calls for Lent {
@@ -233,8 +233,8 @@ impl Measured {
 pub fn table(turns: usize) -> Measured {
     let mut r = Random::new(11);
     let count = if turns == 0 { 2 } else { 10 };
-    let paths: Vec<Path> = (0..count).map(|_| along(&random(32, 64, TOP, |r| r.amount(TOP), &mut r), &mut r)).collect();
-    let above: Vec<Path> = (0..count).map(|_| along(&random_above(0, anywhere_above, &mut r), &mut r)).collect();
+    let paths: Vec<Path> = (0..count).map(|_| along(&random(32, LIVE_BIDDERS, TOP, |r| r.amount(TOP), &mut r), &mut r)).collect();
+    let above: Vec<Path> = (0..count).map(|_| along(&random_above(LIVE_BIDDERS, 0, anywhere_above, &mut r), &mut r)).collect();
     let mut measured = Measured::default();
     for (_, records) in calls(&paths).iter().chain(&calls(&above)) {
         records.iter().for_each(|(at, call)| _ = compare(at, *call));
@@ -245,11 +245,11 @@ pub fn table(turns: usize) -> Measured {
         compare(&path.closed, Call::Read { room: LONGEST_LIVE - 1 });
         measured.compared += 1;
     }
-    for (items, bidders, top) in [(32, 64, 2), (8, 16, 12), (3, 5, 20)] {
+    for (items, bidders, top) in [(32, LIVE_BIDDERS, 2), (8, 16, 12), (3, 5, 20)] {
         measured.compared += play(&random(items, bidders, top, |r| r.amount(top), &mut r));
     }
     if turns > 0 {
-        println!("\n| live calls on a record and tables of 32 items and 64 bidders | proved, ns | plain Rust, ns | ratio |");
+        println!("\n| live calls on a record and tables of 32 items and 40 bidders | proved, ns | plain Rust, ns | ratio |");
         println!("|---|---|---|---|");
         for (name, records) in calls(&paths) {
             let [proved, plain] = times(turns, &records);

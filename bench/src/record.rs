@@ -4,7 +4,7 @@ use crate::plain::{above_floors, falling, rising, Demands};
 use crate::{bytes, search, tables};
 use model::live::{self, Answer, Phase, Report};
 use model::tables::TABLE;
-use model::{Kind, TOP};
+use model::{Kind, LIVE_BIDDERS, TOP};
 
 /// The calls on a record and its tables, which they change in place; each answers its number, or 0.
 pub trait Calls: Clone {
@@ -57,7 +57,7 @@ impl Record {
 
     /// Number 11 does not apply.
     fn well_formed(&self) -> bool {
-        if !(1..=32).contains(&self.items) || !(1..=64).contains(&self.bidders) {
+        if !(1..=32).contains(&self.items) || !(1..=LIVE_BIDDERS).contains(&self.bidders) {
             return false;
         }
         if self.prices.iter().any(|&p| p > TOP) || self.prices[self.items..].iter().any(|&p| p != 0) {

@@ -166,7 +166,7 @@ fn from_anywhere(r: &mut Random) -> Kind {
 }
 
 fn from_above_floors(r: &mut Random) -> Kind {
-    ("random, floors anywhere, from anywhere above", several(20, || random_above(0, anywhere_above, r)))
+    ("random, floors anywhere, from anywhere above", several(20, || random_above(64, 0, anywhere_above, r)))
 }
 
 /// How many changes are tried for the worst sheets.
@@ -219,10 +219,10 @@ pub fn floors(worst: Vec<Sheet>, turns: usize, measured: &mut Measured) {
     let mut r = Random::new(103);
     let r = &mut r;
     let kinds = vec![
-        ("random, floors anywhere, from the floors", several(20, || random_above(0, |floor, _| floor, r))),
+        ("random, floors anywhere, from the floors", several(20, || random_above(64, 0, |floor, _| floor, r))),
         from_above_floors(r),
-        ("random, floors of 3,800 and more, from the floors", several(20, || random_above(3_800, |floor, _| floor, r))),
-        ("random, floors of 3,800 and more, from anywhere above", several(20, || random_above(3_800, anywhere_above, r))),
+        ("random, floors of 3,800 and more, from the floors", several(20, || random_above(64, 3_800, |floor, _| floor, r))),
+        ("random, floors of 3,800 and more, from anywhere above", several(20, || random_above(64, 3_800, anywhere_above, r))),
         ("the worst found without floors, each start made a floor", worst.into_iter().map(from_floors).collect()),
     ];
     table("sheets of 32 items with floors and 64 bidders", kinds, Auction::Above, turns, measured);

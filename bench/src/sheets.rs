@@ -11,11 +11,11 @@ pub fn random(items: usize, bidders: usize, top: u16, start: impl Fn(&mut Random
     Sheet::of(starts, bidders, (0..items * bidders).map(|_| r.amount(top)).collect())
 }
 
-/// 32 items with floors from `low` to 4,095 and 64 bidders with bids from 0, starting prices as `start` gives them for a floor.
-pub fn random_above(low: u16, start: impl Fn(u16, &mut Random) -> u16, r: &mut Random) -> Sheet {
+/// 32 items with floors from `low` to 4,095 and bidders with bids from 0, starting prices as `start` gives them for a floor.
+pub fn random_above(bidders: usize, low: u16, start: impl Fn(u16, &mut Random) -> u16, r: &mut Random) -> Sheet {
     let floors: Vec<u16> = (0..32).map(|_| low + r.amount(TOP - low)).collect();
     let starts = floors.iter().map(|&floor| start(floor, r)).collect();
-    Sheet::of(starts, 64, (0..64 * 32).map(|_| r.amount(TOP)).collect()).above(&floors)
+    Sheet::of(starts, bidders, (0..bidders * 32).map(|_| r.amount(TOP)).collect()).above(&floors)
 }
 
 /// A price from the floor up.

@@ -25,8 +25,8 @@ impl Refusal {
     /// What is wrong, and what to mend.
     pub fn message(self) -> &'static str {
         match self.number {
-            1 => "the number of pans is not 1 to 32: mend the first two digits of the sheet (01 to 20)",
-            2 => "the number of rakers is not 1 to 64: mend the third and fourth digit of the sheet (01 to 40)",
+            1 => "the number of pans is not 1 to 32: mend the first two digits of the sheet (hexadecimal, 01 to 20)",
+            2 => "the number of rakers is not 1 to 64: mend the third and fourth digit of the sheet (hexadecimal, 01 to 40)",
             3 => {
                 "a length does not fit the counts: one starting rent a pan, one floor a pan, one bid a pan for each raker, room for \
                  the whole closing"

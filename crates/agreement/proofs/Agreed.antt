@@ -1,7 +1,7 @@
 -- Instances of the agreement. On each sheet and list below the machine's answers, the record that holds what it holds, and its tables are written out, and the machine
 -- is held to them call by call: by computation from the definitions alone, save that 19, which is asked of all bids, is settled by a law. So that a list stays on
 -- its sheet is no empty premise, and a wrong definition makes one of them false. `AgreedLive` has what follows for the live auction. Assumes nothing.
-use Prim.Native.Nat.{ℕ, _-_, _<_}
+use Prim.Native.Nat.{ℕ, _-_, _≤_, _<_}
 use mathlib.Core.Path.{_≡_, refl, ap, ap₂, _∙_}
 use mathlib.Core.Bool.{Bool, true, false, _||_, cond}
 use mathlib.Core.List.{List, [], _∷_, _++_, map}
@@ -22,7 +22,7 @@ use Rattle.rule.specs.Round.{raise, lower, raised, lowered, closed, roundFallin
 use Rattle.rule.specs.Assignment.{option, holders, isAssignment, fits, someList, choose, assignment}
 use Rattle.rule.specs.Closing.{demandsAt}
 use Rattle.rule.specs.Gains.{gain, gainsAt}
-use Rattle.rule.specs.Refusal.{on, first, badBidder}
+use Rattle.rule.specs.Refusal.{on, first, mostLiveBidders, badBidder}
 use Rattle.rule.proofs.Limits.{limits}
 use Rattle.rule.proofs.Closing.{closing}
 use Rattle.digits.specs.Digits.{digit, hex}
@@ -75,6 +75,7 @@ first-call (goes e done) = e
 -- after the list the machine is in this state, and this record holds what it holds
 pub record Agreed (s : Sheet) (xs : Answers) (v : Machine) (r : Auction) : Type 0 where
   pub within : withinLimits s ≡ true
+  pub few : length (s .bids) ≤ mostLiveBidders
   pub answered : Goes s (begin s) xs v
   pub holds : standsFor s v ≡ r
 
@@ -163,6 +164,7 @@ unfolding computing
 closes =
     record {
       within = refl;
+      few = omega arith;
       answered =
           goes refl (goes refl
           (goes (own one one-within (begin one) _ (at-first one one-within) 0 (omega arith) (saying true 1) refl)
@@ -203,7 +205,7 @@ openedOne = record { moves = 0; hasClosed = false; standing = λ i. none; tables
 
 pub eight : Agreed one ((reporting 1 (saying true 2), told 8) ∷ []) openedOne (holding 1 1 (1 ∷ []) [] [] 0 0 Rising 0 0)
 unfolding computing
-eight = record { within = refl; answered = goes refl done; holds = refl }
+eight = record { within = refl; few = omega arith; answered = goes refl done; holds = refl }
 
 -- ---- where null alone stands, which is not the sheet's demand, a move would narrow by the demand all the same
 pub by-demands : narrowedOn one (record { moves = 0; hasClosed = false; standing = standing1 (saying true 0); tables = tables0 1 }) 0 ≡ tables1 1 (1 ∷ []) (saying true 1 ∷ []) 0
@@ -225,6 +227,7 @@ unfolding computing
 accepts-null =
     record {
       within = refl;
+      few = omega arith;
       answered = goes (not-nineteen (unexplainedBy one (begin one) 0 (saying true 0)) (begin one) _ (null-explained (λ i. none))) done;
       holds = refl;
     }
@@ -262,6 +265,7 @@ unfolding computing
 no-item =
     record {
       within = refl;
+      few = omega arith;
       answered = goes (own zero-bid zero-within (begin zero-bid) _ (at-first zero-bid zero-within) 0 (omega arith) (saying true 0) refl) (goes refl (goes refl done));
       holds = refl;
     }
@@ -276,6 +280,7 @@ unfolding computing
 with-it =
     record {
       within = refl;
+      few = omega arith;
       answered = goes (is-nineteen (unexplainedBy zero-bid (begin zero-bid) 0 (saying true 1)) (begin zero-bid) _ (with-it-unexplained (λ i. none))) done;
       holds = refl;
     }
@@ -312,6 +317,7 @@ unfolding computing
 raises =
     record {
       within = refl;
+      few = omega arith;
       answered =
           goes (own six six-within (begin six) _ (at-first six six-within) 0 (omega arith) (saying false 2) refl)
           (goes (own six six-within _ _ (at-first six six-within) 1 (omega arith) (saying false 2) refl)
@@ -347,6 +353,7 @@ unfolding computing
 floored =
     record {
       within = refl;
+      few = omega arith;
       answered =
           goes (own floor2 floor-within (begin floor2) _ (at-first floor2 floor-within) 0 (omega arith) (saying true 0) refl)
           (goes refl

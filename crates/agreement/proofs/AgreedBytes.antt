@@ -1,8 +1,8 @@
--- An instance of the agreement with a bid sheet's bytes: those of the sheet `one` of `Agreed`, on which the machine closes. No number turns them down, so that neither
+-- An instance of the agreement with a bid sheet's bytes: those of the sheet `one` of `Agreed`, on which the machine closes. No number turns them down, so that no
 -- premise of `reads-sheet` is empty. A read writes the lines that the read there was seen to write, and closing the bytes writes these and the line of gains.
 -- Assumes nothing.
-use Prim.Native.Nat.{ℕ}
-use mathlib.Core.Path.{_≡_, refl, ap, ap₂, _∙_}
+use Prim.Native.Nat.{ℕ, _≤_}
+use mathlib.Core.Path.{_≡_, refl, sym, ap, ap₂, _∙_, subst}
 use mathlib.Core.Bool.{false}
 use mathlib.Core.List.{List, [], _∷_, _++_}
 use lib.Dec.{ltb}
@@ -13,7 +13,7 @@ use Rattle.sets.specs.Lists.{tabulate}
 use Rattle.rule.specs.Sheet.{Sheet}
 use Rattle.rule.specs.Round.{close}
 use Rattle.rule.specs.Gains.{gainsAt}
-use Rattle.rule.specs.Refusal.{on, first, badItems, badBidders, anyOver}
+use Rattle.rule.specs.Refusal.{on, first, badItems, badBidders, mostLiveBidders, anyOver}
 use Rattle.digits.specs.Digits.{digit, hex}
 use Rattle.digits.specs.Reading.{digitValue, digitAt, numberAt}
 use Rattle.lines.specs.Lines.{newline, joined, amountsLine, closingLength, sealedLength, writtenTo}
@@ -62,8 +62,11 @@ module _ (lent : List ℤ) (fit : badTables 1 lent ≡ false) where
   fits : badTables (length (sheetIn oneBytes .bids)) lent ≡ false
   fits = ap (λ (s : Sheet). badTables (length (s .bids)) lent) says ∙ fit
 
+  few : length (sheetIn oneBytes .bids) ≤ mostLiveBidders
+  few = subst (λ (s : Sheet). length (s .bids) ≤ mostLiveBidders) (sym says) (closes .few)
+
   abbrev whole : ReadsSheet oneBytes lent (callsOf oneList) lastOne
-  whole = reads-sheet oneBytes 26 no-number lent fits (callsOf oneList) (answersOf oneList) lastOne stays
+  whole = reads-sheet oneBytes 26 no-number few lent fits (callsOf oneList) (answersOf oneList) lastOne stays
 
   read-number : readNumber (liveRun (sheetIn oneBytes) lent (callsOf oneList) .last .auction) (replicate 22 7) ≡ 0
   unfolding computing

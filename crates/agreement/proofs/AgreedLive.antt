@@ -6,7 +6,7 @@ use mathlib.Core.List.{List, [], _∷_}
 use lib.IntN.{ℤ}
 use lib.ListN.{length}
 use Rattle.rule.specs.Sheet.{Sheet, priceSum}
-use Rattle.rule.specs.Refusal.{on, first, badItems, badBidders, badLength, anyOver, anyUnder, badFloors}
+use Rattle.rule.specs.Refusal.{on, first, badItems, badLiveBidders, badLength, anyOver, anyUnder, badFloors}
 use Rattle.rule.specs.Closing.{Closing}
 use Rattle.rule.proofs.Limits.{Limits}
 use Rattle.differences.specs.Lent.{flatAll}
@@ -28,7 +28,7 @@ use Rattle.agreement.proofs.Agreed.{computing, Answers, callsOf, answer
 
 -- the definitions that a read computes with, beside those of `Agreed`
 unfoldable pub reading-too : Unit {0}
-unfolding priceSum badItems badBidders anyOver anyUnder reports place hasReported missing reportsOf itemsAbove risingSet fallingSet countsFit pricesFit unusedPrices floorsFit fromFloors unusedFloors unusedPlaces unusedBits reportedFit othersEmpty roundsFit closeFits wellFormed readNumber namesOf sheetOf readBytes call run
+unfolding priceSum badItems badLiveBidders anyOver anyUnder reports place hasReported missing reportsOf itemsAbove risingSet fallingSet countsFit pricesFit unusedPrices floorsFit fromFloors unusedFloors unusedPlaces unusedBits reportedFit othersEmpty roundsFit closeFits wellFormed readNumber namesOf sheetOf readBytes call run
 reading-too = tt
 
 -- and an opening with floors
@@ -47,7 +47,7 @@ pub record Live (s : Sheet) (lent : List ℤ) (xs : Answers) (v : Machine) (r : 
 pub live : (s : Sheet) (xs : Answers) (v : Machine) (r : Auction) → Agreed s xs v r → (lent : List ℤ) → badTables (length (s .bids)) lent ≡ false → Live s lent xs v r
 unfolding tablesOf
 live s xs v r a lent fit =
-    let w = agreement s (a .within) lent fit (callsOf xs) (answersOf xs) v (goes-run s (begin s) xs v (a .answered)) in
+    let w = agreement s (a .within) (a .few) lent fit (callsOf xs) (answersOf xs) v (goes-run s (begin s) xs v (a .answered)) in
     record { opens = w .opens; answers = w .same-answers; auction = w .same-record ∙ a .holds; tables = w .same-tables }
 
 -- ---- from what is held for any state that the machine may reach

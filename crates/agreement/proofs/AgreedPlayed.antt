@@ -78,8 +78,8 @@ along-one = refl
 pub played-one : (lent : List ℤ) → badTables 1 lent ≡ false → played (openedWith 1 1 (1 ∷ []) (0 ∷ []) lent) (callsOf oneList) ≡ loweredRound ∷ closingRound ∷ []
 played-one lent fit =
     let lim = limits one one-within in
-    ap (λ (h : Held). played h (callsOf oneList)) (opened-for one lim lent fit)
-    ∙ played-along one lim (closing one one-within) (begin one) (good-begin one lim) (subst Sound (opened-for one lim lent fit) (opens-sound one lim lent fit)) oneList lastOne (closes .answered)
+    ap (λ (h : Held). played h (callsOf oneList)) (opened-for one lim (closes .few) lent fit)
+    ∙ played-along one lim (closing one one-within) (begin one) (good-begin one lim) (subst Sound (opened-for one lim (closes .few) lent fit) (opens-sound one lim (closes .few) lent fit)) oneList lastOne (closes .answered)
     ∙ along-one
 
 -- ---- bids that explain: the bid of 1 explains the round that lowered, and a bid of 2 does not; of the close nothing is asked

@@ -1,5 +1,5 @@
 -- The agreement of the live auction with the plain machine, over the whole list. Assumes nothing.
-use Prim.Native.Nat.{ℕ, suc, _≤_}
+use Prim.Native.Nat.{ℕ, suc, _≤_, _<_}
 use mathlib.Core.Path.{_≡_, refl, sym, ap, _∙_, subst}
 use mathlib.Core.Bool.{Bool, true, false}
 use mathlib.Core.List.{List, [], _∷_}
@@ -11,18 +11,18 @@ use lib.IntN.{ℤ}
 use Rattle.rule.specs.Sheet.{amount, Sheet, withinLimits}
 use Rattle.rule.specs.Round.{closed, path, after, opening}
 use Rattle.rule.specs.Closing.{roundOf, Closing}
-use Rattle.rule.specs.Refusal.{badItems, badBidders}
+use Rattle.rule.specs.Refusal.{badItems, mostLiveBidders, badLiveBidders}
 use Rattle.rule.proofs.Limits.{Limits, limits}
 use Rattle.rule.proofs.Closing.{closing}
-use Rattle.rule.proofs.Refusal.{range-in, under-not}
+use Rattle.rule.proofs.Refusal.{range-in, over-range, under-not}
 use Rattle.sets.proofs.Counting.{not-both}
 use Rattle.live.specs.Auction.{wellFormed}
 use Rattle.live.specs.Tables.{badTables}
-use Rattle.live.specs.Calls.{isClosed, openAboveNumber, opened, openAbove, filledBy, endNumber, endAnswer}
+use Rattle.live.specs.Calls.{isClosed, openAboveNumber, opened, unopened, openedBy, openAbove, filledBy, endNumber, endAnswer}
 use Rattle.live.specs.declared.Auction.{Auction}
 use Rattle.live.specs.declared.Phase.the-variants.{Closed}
 use Rattle.live.specs.declared.Reply.{Reply}
-use Rattle.live.proofs.Opening.{tables-exact, tables-long, no-number, accepts}
+use Rattle.live.proofs.Opening.{tables-exact, tables-long, two, no-number, accepts}
 use Rattle.live.proofs.Parts.{by-parts}
 use Rattle.agreement.specs.Calls.{Call, reporting, ending, clearing, reading, Answer, Held, Answered, call, Ran, run}
 use Rattle.agreement.specs.Machine.{Machine, begin, at, phase, phaseOf, Outcome, answers, leaves, machine, MachineRan, ran, left, behind, machineRun}
@@ -106,7 +106,7 @@ module _ (s : Sheet) (lim : Limits s) where
 
 -- ---- opening
 
-module _ (s : Sheet) (lim : Limits s) (lent : List ℤ) (fit : badTables (length (s .bids)) lent ≡ false) where
+module _ (s : Sheet) (lim : Limits s) (few : length (s .bids) ≤ mostLiveBidders) (lent : List ℤ) (fit : badTables (length (s .bids)) lent ≡ false) where
   abbrev m : ℕ
   m = s .items
 
@@ -116,7 +116,7 @@ module _ (s : Sheet) (lim : Limits s) (lent : List ℤ) (fit : badTables (length
   opens-number : openAboveNumber m n (s .start) (s .floors) lent ≡ 0
   opens-number =
       no-number m n (s .start) (s .floors) lent (unfold badItems in range-in 32 m (lim .some-item) (lim .max-items))
-      (unfold badBidders in range-in 64 n (lim .some-bidder) (lim .max-bidders)) (lim .start .long) (lim .floors .long) (tables-long n lent fit)
+      (unfold badLiveBidders in range-in mostLiveBidders n (lim .some-bidder) few) (lim .start .long) (lim .floors .long) (tables-long n lent fit)
       (not-any-over (s .start) (lim .start .most)) (under-not (s .start) (s .floors) (λ k l. unfold amount in lim .floor-le (suc k)))
 
   opens-as : openAbove m n (s .start) (s .floors) lent ≡ record { number = 0; next = opened m n (s .start) (s .floors) }
@@ -180,19 +180,20 @@ module _ (s : Sheet) (t : Machine) (h : Held) (e : h ≡ heldFor s t) where
   unfolding heldFor
   end-is f = ap (λ (x : Held). f (x .auction) (x .tables)) e
 
-pub agreement : (s : Sheet) → withinLimits s ≡ true → (lent : List ℤ) → badTables (length (s .bids)) lent ≡ false → (calls : List Call) (theirs : List Answer) (t : Machine)
-    → machineRun s (begin s) calls ≡ ran theirs t → Agrees s lent calls theirs t
-agreement s e lent fit calls theirs t q =
+-- for every sheet within the limits that has no more bidders than a live auction, whatever tables of the right length are lent at its opening
+pub agreement : (s : Sheet) → withinLimits s ≡ true → length (s .bids) ≤ mostLiveBidders → (lent : List ℤ) → badTables (length (s .bids)) lent ≡ false
+    → (calls : List Call) (theirs : List Answer) (t : Machine) → machineRun s (begin s) calls ≡ ran theirs t → Agrees s lent calls theirs t
+agreement s e few lent fit calls theirs t q =
     let lim = limits s e in
     let c = closing s e in
-    let h = whole s lim lent fit c calls theirs t q in
+    let h = whole s lim few lent fit c calls theirs t q in
     let g = h .2 in
     let held : liveRun s lent calls .last ≡ heldFor s t = h .1 in
     let last : liveRun s lent calls .last .auction ≡ standsFor s t = record-is s t (liveRun s lent calls .last) held in
-    let sound = last-sound s lim lent fit calls in
+    let sound = last-sound s lim few lent fit calls in
     let w : wellFormed (standsFor s t) ≡ true = subst (λ (r : Auction). wellFormed r ≡ true) last (sound .well-formed) in
     record {
-      opens = opens s lim lent fit;
+      opens = opens s lim few lent fit;
       same-answers = h .0;
       same-record = last;
       same-tables = tables-are s t (liveRun s lent calls .last) held;
@@ -208,6 +209,15 @@ agreement s e lent fit calls theirs t q =
       well-formed = sound .well-formed;
       tables-long = ap (λ (x : List ℤ). badTables (length (s .bids)) x) (tables-are s t (liveRun s lent calls .last) held) ∙ tables-exact (length (s .bids)) (tablesOf s t) (joined-long s t (g .tabled));
       tables-fit = sound .fit;
-      no-eleven = subst (λ (xs : List Answer). never 11 xs ≡ true) (h .0) (no-eleven s lim lent fit calls);
+      no-eleven = subst (λ (xs : List Answer). never 11 xs ≡ true) (h .0) (no-eleven s lim few lent fit calls);
       not-refused = λ o d. end-is s t (liveRun s lent calls .last) held endNumber ∙ not-refused s lim c t g w o d;
     }
+
+-- and no sheet with more bidders is ever opened: 2, whatever is lent
+pub too-many : (s : Sheet) → withinLimits s ≡ true → mostLiveBidders < length (s .bids) → (lent : List ℤ) → openingOf s lent .number ≡ 2
+unfolding openingOf openAbove openedBy unopened
+too-many s e more lent =
+    let lim = limits s e in
+    ap (λ (x : ℕ). openedBy x (s .items) (length (s .bids)) (s .start) (s .floors) .number)
+    (two (s .items) (length (s .bids)) (s .start) (s .floors) lent (unfold badItems in range-in 32 (s .items) (lim .some-item) (lim .max-items))
+    (unfold badLiveBidders in over-range mostLiveBidders (length (s .bids)) (lim .some-bidder) more))

@@ -10,8 +10,7 @@ use native.Mathlib.Decide.{decLe}
 use lib.Dec.{eqb}
 use lib.IntN.{ℤ}
 use lib.ListN.{length, replicate, length-set, length-replicate, List·getD-eq-default}
-use borrow.Author.Tests.{eqb-true, ne-eqb}
-use borrow.Author.Tests.{not-false as not-false-is}
+use borrow.Author.Tests.{ne-eqb}
 use Rattle.sets.specs.Lists.{places}
 use Rattle.sets.proofs.Counting.{and-both}
 use Rattle.sets.proofs.Lists.{places-length, places-at}
@@ -19,7 +18,7 @@ use Rattle.sets.proofs.Sums.{sum-mono}
 use Rattle.rule.specs.Sheet.{amount, priceSum}
 use Rattle.rule.specs.Demand.{Demand}
 use Rattle.rule.specs.Round.{Round, raised, lowered, closed}
-use Rattle.rule.specs.Refusal.{Refusal, on, first, badItems, badBidders, badLength, anyOver, badFloors, badBidder}
+use Rattle.rule.specs.Refusal.{Refusal, on, first, anyOver, badFloors, badBidder}
 use Rattle.rule.proofs.Refusal.{passed, given, none as first-none, other, in-range, floors-fit}
 use Rattle.rule.proofs.Limits.{amount-beyond}
 use Rattle.lines.specs.Lines.{writtenTo}
@@ -34,7 +33,7 @@ use Rattle.live.specs.declared.Reply.{Reply}
 use Rattle.agreement.specs.Calls.{Call, reporting, ending, clearing, reading, ended, Held, call, run}
 use Rattle.agreement.specs.Agreement.{openedWith, numberOf, never}
 use Rattle.live.proofs.Formed.{not-over, Formed, formed, well}
-use Rattle.live.proofs.Opening.{tables-exact, number-zero, zero-floors}
+use Rattle.live.proofs.Opening.{tables-exact, opens, number-zero, zero-floors}
 use Rattle.agreement.proofs.Lent.{open-long, open-fit, after-fit, after-long}
 use Rattle.agreement.proofs.Keeps.{without-reports, not-closed, cleared-formed, reported-formed}
 use Rattle.agreement.proofs.Settles.{settled-formed, rising-make}
@@ -202,23 +201,12 @@ never-eleven h g (c ∷ calls) =
 
 module _ (m n : ℕ) (start floors : List ℕ) (lent : List ℤ) where
   opened-formed : openAboveNumber m n start floors lent ≡ 0 → Formed (opened m n start floors)
-  unfolding openAboveNumber opened
+  unfolding opened
   opened-formed e =
-      let q₁ = first-none 0 (badItems m) _ e in
-      let q₂ = first-none 1 (badBidders n) _ (q₁ .1) in
-      let q₃ = first-none 2 (badLength start m) _ (q₂ .1) in
-      let q₄ = first-none 2 (badLength floors m) _ (q₃ .1) in
-      let q₅ = first-none 2 (badTables n lent) _ (q₄ .1) in
-      let q₆ = first-none 3 (anyOver start) _ (q₅ .1) in
-      let q₇ = first-none 17 (badFloors start floors) [] (q₆ .1) in
-      let items : (1 ≤ m) × (m ≤ 32) = in-range 32 m (unfold badItems in q₁ .0) in
-      let bidders : (1 ≤ n) × (n ≤ 64) = in-range 64 n (unfold badBidders in q₂ .0) in
-      without-reports (opened m n start floors) refl refl refl (items .0) (items .1) (bidders .0) (bidders .1) (range (q₆ .0)) (past (exact (q₃ .0))) (low (q₇ .0))
-      (rising-make (opened m n start floors) refl (omega (arith, low-sum (q₇ .0)))) (not-closed Rising (opened m n start floors) refl)
+      let a = opens m n start floors lent e in
+      without-reports (opened m n start floors) refl refl refl (a .some-item) (a .max-items) (a .some-bidder) (a .max-bidders) (range (a .starts)) (past (a .start-long)) (low (a .lows))
+      (rising-make (opened m n start floors) refl (omega (arith, low-sum (a .lows)))) (not-closed Rising (opened m n start floors) refl)
     where
-      exact : badLength start m ≡ false → length start ≡ m
-      exact e = eqb-true (length start) m (not-false-is (eqb (length start) m) (unfold badLength in e))
-
       range : anyOver start ≡ false → (i : ℕ) → amount (places 32 start) i ≤ 4095
       range e zero = unfold amount in omega arith
       range e (suc k) = go (decLe 32 k)

@@ -12,10 +12,10 @@ use borrow.Author.Tests.{ne-eqb}
 use Rattle.sets.proofs.Counting.{and-both}
 use Rattle.rule.specs.Sheet.{amount, each4095, Sheet}
 use Rattle.rule.specs.Closing.{demandsAt}
-use Rattle.rule.specs.Refusal.{Refusal, on, first, badItems, badBidders, badLength, anyOver, badFloors}
+use Rattle.rule.specs.Refusal.{Refusal, on, first, mostLiveBidders}
 use Rattle.rule.proofs.Closing.{closing}
 use Rattle.rule.proofs.Limits.{limits, each-make}
-use Rattle.rule.proofs.Refusal.{none as first-none, other, past, in-range, exact-is, none-over, floors-fit}
+use Rattle.rule.proofs.Refusal.{other, past, none-over, floors-fit}
 use Rattle.differences.specs.Table.{meets}
 use Rattle.differences.specs.Lent.{tableAt}
 use Rattle.differences.proofs.Laws.{opening-met}
@@ -24,6 +24,8 @@ use Rattle.live.specs.Tables.{badTables, tablesFit, openTables}
 use Rattle.live.specs.Calls.{isClosed, openAboveNumber, opened, openedBy, openAbove, filledBy, reportNumber, report, clearNumber, clear, endNumber, roundBy, Ending, gives, refused, endAnswer}
 use Rattle.live.specs.Reading.{readNumber}
 use Rattle.live.specs.declared.Auction.{Auction}
+use Rattle.live.proofs.Opening.{Opens, tables-exact}
+use Rattle.live.proofs.Opening.{opens as opens-within}
 use Rattle.agreement.specs.Calls.{Call, reporting, ending, clearing, reading, Answer, ended, Held, call, Ran, run}
 use Rattle.agreement.specs.Machine.{Machine, begin, ran, machineRun}
 use Rattle.agreement.specs.Agreement.{openedWith, liveRun, standsFor, numberOf, never, ClosedAs, Agrees}
@@ -74,41 +76,18 @@ no-number x e = omega (arith, e)
 -- ---- an opening that is not turned down
 
 module _ (m n : ℕ) (start floors : List ℕ) (lent : List ℤ) (e : openAboveNumber m n start floors lent ≡ 0) where
-  record Accepted : Type 0 where
-    some-item : 1 ≤ m
-    max-items : m ≤ 32
-    some-bidder : 1 ≤ n
-    max-bidders : n ≤ 64
-    starts : each4095 m start ≡ true
-    lows : each4095 m floors ≡ true
-    low : (k : ℕ) → k < m → amount floors (suc k) ≤ amount start (suc k)
-    long : badTables n lent ≡ false
+  accepted : Opens m n start floors lent
+  accepted = opens-within m n start floors lent e
 
-  accepted : Accepted
-  unfolding openAboveNumber amount
-  accepted =
-      let q₁ = first-none 0 (badItems m) _ e in
-      let q₂ = first-none 1 (badBidders n) _ (q₁ .1) in
-      let q₃ = first-none 2 (badLength start m) _ (q₂ .1) in
-      let q₄ = first-none 2 (badLength floors m) _ (q₃ .1) in
-      let q₅ = first-none 2 (badTables n lent) _ (q₄ .1) in
-      let q₆ = first-none 3 (anyOver start) _ (q₅ .1) in
-      let q₇ = first-none 17 (badFloors start floors) [] (q₆ .1) in
-      let items : (1 ≤ m) × (m ≤ 32) = in-range 32 m (unfold badItems in q₁ .0) in
-      let bidders : (1 ≤ n) × (n ≤ 64) = in-range 64 n (unfold badBidders in q₂ .0) in
-      let start-long = exact-is start m (q₃ .0) in
-      let floors-long = exact-is floors m (q₄ .0) in
-      let fit = floors-fit start floors (q₇ .0) in
-      record {
-        some-item = items .0;
-        max-items = items .1;
-        some-bidder = bidders .0;
-        max-bidders = bidders .1;
-        starts = each-make m start start-long (λ k l. none-over start (q₆ .0) k (omega (arith, l, start-long)));
-        lows = each-make m floors floors-long (λ k l. fit .1 k (omega (arith, l, floors-long)));
-        low = λ k l. fit .0 k;
-        long = q₅ .0;
-      }
+  starts : each4095 m start ≡ true
+  starts = let l = accepted .start-long in each-make m start l (λ k h. none-over start (accepted .starts) k (omega (arith, h, l)))
+
+  lows : each4095 m floors ≡ true
+  lows = let l = accepted .floors-long in each-make m floors l (λ k h. floors-fit start floors (accepted .lows) .1 k (omega (arith, h, l)))
+
+  low : (k : ℕ) → k < m → amount floors (suc k) ≤ amount start (suc k)
+  unfolding amount
+  low k h = floors-fit start floors (accepted .lows) .0 k
 
   abbrev opens : Held
   opens = openedWith m n start floors lent
@@ -158,7 +137,7 @@ module _ (m n : ℕ) (start floors : List ℕ) (lent : List ℤ) (e : openAboveN
         let a = accepted in
         let suits = chosen-suits m n start floors z items-last bidders-last (explainable calls) in
         record {
-          within = chosen-within m n start floors z items-last bidders-last (explainable calls) (a .some-item) (a .max-items) (a .some-bidder) (a .max-bidders) (a .starts) (a .lows) (a .low);
+          within = chosen-within m n start floors z items-last bidders-last (explainable calls) (a .some-item) (a .max-items) (a .some-bidder) (omega (arith, a .max-bidders)) starts lows low;
           same-items = refl;
           same-bidders = sym (sym bidders-last ∙ suits .bidders);
           same-start = refl;
@@ -179,18 +158,21 @@ module _ (m n : ℕ) (start floors : List ℕ) (lent : List ℤ) (e : openAboveN
           ∙ ap (λ (y : List ℕ). openedWith m n start y lent) (x .same-floors)
 
       lent-fits : badTables (length (s .bids)) lent ≡ false
-      lent-fits = ap (λ (y : ℕ). badTables y lent) (x .same-bidders) ∙ accepted .long
+      lent-fits = ap (λ (y : ℕ). badTables y lent) (x .same-bidders) ∙ tables-exact n lent (accepted .lent-long)
+
+      few : length (s .bids) ≤ mostLiveBidders
+      few = omega (arith, accepted .max-bidders, x .same-bidders)
 
       stays : (t : Machine) × (machineRun s (begin s) calls ≡ ran (run opens calls .answers) t)
       unfolding Stays
       stays =
           let lim = limits s (x .within) in
-          let o : openedWith m n start floors lent ≡ _ = sym same-opening ∙ opened-for s lim lent lent-fits in
+          let o : openedWith m n start floors lent ≡ _ = sym same-opening ∙ opened-for s lim few lent lent-fits in
           let w = never-left s lim (closing s (x .within)) (begin s) (good-begin s lim) (subst Sound o sound) calls (subst (λ (h : Held). ExplainsRounds s (played h calls)) o (x .rounds)) in
           (w .0, w .1 ∙ ap (λ (h : Held). ran (run h calls .answers) (w .0)) (sym o))
 
       agrees : Agrees s lent calls (run opens calls .answers) (stays .0)
-      agrees = agreement s (x .within) lent lent-fits calls (run opens calls .answers) (stays .0) (stays .1)
+      agrees = agreement s (x .within) few lent lent-fits calls (run opens calls .answers) (stays .0) (stays .1)
 
       live-is : liveRun s lent calls ≡ run opens calls
       unfolding liveRun

@@ -86,6 +86,7 @@ unfolding computing
 first-report-nineteen =
     record {
       within = refl;
+      few = omega arith;
       answered =
           goes (own five five-within (begin five) _ (at-first five five-within) 0 (omega arith) (saying true 0) refl)
           (goes (own five five-within _ _ (at-first five five-within) 1 (omega arith) (saying true 0) refl)
@@ -190,6 +191,7 @@ unfolding computing
 seventeen-nineteen =
     record {
       within = refl;
+      few = omega arith;
       answered = goes (is-nineteen (unexplainedBy top (begin top) 0 (saying false 1)) (begin top) _ top-unexplained) done;
       holds = refl;
     }

@@ -14,6 +14,7 @@ use Rattle.sets.proofs.Counting.{and-left, or-right, not-both, not-is, or-false
 use Rattle.sets.proofs.Members.{has-setOf, empty-has}
 use Rattle.rule.specs.Sheet.{amount}
 use Rattle.rule.specs.Demand.{Demand}
+use Rattle.rule.specs.Refusal.{mostLiveBidders}
 use Rattle.reports.specs.Report.{isEmpty, beyond, unfit}
 use Rattle.reports.proofs.Laws.{empty-within}
 use Rattle.live.specs.Auction.{place, hasReported, roundsFit, closeFits}
@@ -55,7 +56,7 @@ module _ (q : Auction) (no-sets : q .sets ≡ replicate 64 0) (no-nulls : q .nul
   unfolding hasReported
   none-reported b = ap (λ (x : ℕ). has x b) no-reported ∙ empty-has b
 
-  pub without-reports : 1 ≤ q .items → q .items ≤ 32 → 1 ≤ q .bidders → q .bidders ≤ 64 → ((i : ℕ) → amount (q .prices) i ≤ 4095)
+  pub without-reports : 1 ≤ q .items → q .items ≤ 32 → 1 ≤ q .bidders → q .bidders ≤ mostLiveBidders → ((i : ℕ) → amount (q .prices) i ≤ 4095)
       → ((k : ℕ) → k < 32 → q .items ≤ k → amount (q .prices) (suc k) ≡ 0) → ((i : ℕ) → amount (q .floors) i ≤ amount (q .prices) i)
       → roundsFit (q .phase) q ≡ true → closeFits (q .phase) q ≡ true → Formed q
   without-reports a b c d range past low rounds at-close =

@@ -1,5 +1,5 @@
 -- The bytes that closing a bid sheet writes are those that a live read of the same sheet's close writes, and behind them the line of gains. Assumes nothing.
-use Prim.Native.Nat.{ℕ, zero, suc}
+use Prim.Native.Nat.{ℕ, zero, suc, _≤_}
 use mathlib.Core.Path.{_≡_, refl, sym, ap, _∙_, subst}
 use mathlib.Core.Bool.{true, false, not}
 use mathlib.Core.List.{List, [], _∷_, _++_}
@@ -12,7 +12,7 @@ use Rattle.rule.specs.Sheet.{Sheet}
 use Rattle.rule.specs.Round.{State, close}
 use Rattle.rule.specs.Gains.{gainsAt}
 use Rattle.rule.specs.Closing.{assignmentAt, Closing}
-use Rattle.rule.specs.Refusal.{on, first}
+use Rattle.rule.specs.Refusal.{on, first, mostLiveBidders}
 use Rattle.rule.proofs.Refusal.{passed, none as first-none}
 use Rattle.lines.specs.Lines.{amountsLine, sealedSheet, closingLength, sealedLength, writtenTo}
 use Rattle.live.specs.Auction.{wellFormed}
@@ -101,7 +101,7 @@ module _ (bytes : List ℕ) (room : ℕ) (e : sheetRefusal bytes room ≡ 0) whe
 
   -- ---- the record after the list
 
-  module _ (lent : List ℤ) (fit : badTables (length (s .bids)) lent ≡ false) (calls : List Call) (theirs : List Answer) (t : Machine) (q : machineRun s (begin s) calls ≡ ran theirs t) where
+  module _ (few : length (s .bids) ≤ mostLiveBidders) (lent : List ℤ) (fit : badTables (length (s .bids)) lent ≡ false) (calls : List Call) (theirs : List Answer) (t : Machine) (q : machineRun s (begin s) calls ≡ ran theirs t) where
     abbrev r : Auction
     r = liveRun s lent calls .last .auction
 
@@ -110,7 +110,7 @@ module _ (bytes : List ℕ) (room : ℕ) (e : sheetRefusal bytes room ≡ 0) whe
         → readNumber (liveRun (sheetIn bytes) lent calls .last .auction) out ≡ first (on 3 (ltb (length out) (closingLength (sheetIn bytes .items) (length (sheetIn bytes .bids)))) ∷ [])
     unfolding readNumber standsFor
     read-number done out =
-        let g = agreement s (promised bytes room e .within) lent fit calls theirs t q in
+        let g = agreement s (promised bytes room e .within) few lent fit calls theirs t q in
         passed 11 (not (wellFormed r)) _ (ap not (g .well-formed))
         ∙ passed 15 (not (isClosed (r .phase))) _ (ap (λ (p : Phase). not (isClosed p)) (g .closed-when done))
         ∙ ap (λ (x : Auction). first (on 3 (tooFew x out) ∷ [])) (g .same-record)
@@ -122,7 +122,7 @@ module _ (bytes : List ℕ) (room : ℕ) (e : sheetRefusal bytes room ≡ 0) whe
       where
         go : (why : ℕ) → readNumber r out ≡ why → readBytes r out ≡ byNumber why (writtenTo out (threeLines s)) out
         go zero z =
-            agreement s (promised bytes room e .within) lent fit calls theirs t q .as-the-sheet done .reads-lines out
+            agreement s (promised bytes room e .within) few lent fit calls theirs t q .as-the-sheet done .reads-lines out
             (ltb-false (length out) (closingLength (s .items) (length (s .bids))) (first-none 2 (ltb (length out) (closingLength (s .items) (length (s .bids)))) [] (sym (read-number done out) ∙ z) .0))
         go (suc why) z = bytes-before r out (λ n. omega (arith, n, z))
 
@@ -130,13 +130,13 @@ module _ (bytes : List ℕ) (room : ℕ) (e : sheetRefusal bytes room ≡ 0) whe
 pub closes-sheet : (bytes : List ℕ) (room : ℕ) → sheetRefusal bytes room ≡ 0 → ClosesSheet bytes
 closes-sheet bytes room e = record { close-number = close-number bytes room e; close-bytes = close-bytes bytes room e }
 
--- and what every live list on their sheet reads, in which the machine never leaves the sheet
-pub reads-sheet : (bytes : List ℕ) (room : ℕ) → sheetRefusal bytes room ≡ 0 → (lent : List ℤ) → badTables (length (sheetIn bytes .bids)) lent ≡ false
-    → (calls : List Call) (theirs : List Answer) (t : Machine) → machineRun (sheetIn bytes) (begin (sheetIn bytes)) calls ≡ ran theirs t → ReadsSheet bytes lent calls t
-reads-sheet bytes room e lent fit calls theirs t q =
-    let g = agreement (sheetIn bytes) (promised bytes room e .within) lent fit calls theirs t q in
+-- and what every live list on their sheet, with no more bidders than a live auction, reads in which the machine never leaves the sheet
+pub reads-sheet : (bytes : List ℕ) (room : ℕ) → sheetRefusal bytes room ≡ 0 → length (sheetIn bytes .bids) ≤ mostLiveBidders → (lent : List ℤ)
+    → badTables (length (sheetIn bytes .bids)) lent ≡ false → (calls : List Call) (theirs : List Answer) (t : Machine) → machineRun (sheetIn bytes) (begin (sheetIn bytes)) calls ≡ ran theirs t → ReadsSheet bytes lent calls t
+reads-sheet bytes room e few lent fit calls theirs t q =
+    let g = agreement (sheetIn bytes) (promised bytes room e .within) few lent fit calls theirs t q in
     record {
       in-list = subst (EachAs bytes calls) (sym (g .same-answers)) (subst (EachOf bytes room e calls) q (each-as bytes room e (begin (sheetIn bytes)) calls));
-      read-number = read-number bytes room e lent fit calls theirs t q;
-      read-bytes = read-bytes bytes room e lent fit calls theirs t q;
+      read-number = read-number bytes room e few lent fit calls theirs t q;
+      read-bytes = read-bytes bytes room e few lent fit calls theirs t q;
     }

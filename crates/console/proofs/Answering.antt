@@ -25,7 +25,7 @@ use Rattle.live.specs.declared.Reply.{Reply}
 use Rattle.live.proofs.Formed.{formed}
 use Rattle.console.specs.Orders.{starts, alone, amountsAt, amountsOf, startsOf, floorsOf, opening, reporting, orderOf}
 use Rattle.console.specs.Answers.{Said, Told, beside, opens, replies, ends, reads, lent, keeps, fills, toldBy, told}
-use Rattle.console.specs.Steps.{isRead, Puts, toldTo, Answers}
+use Rattle.console.specs.Steps.{longestAnswer, heldNumbers, isRead, Puts, toldTo, Answers}
 use Rattle.console.specs.declared.Answered.{Answered}
 use Rattle.console.specs.declared.Order.{Order}
 use Rattle.console.specs.declared.Order.the-variants.{Open, OpenAbove, Report, End, Clear, Read, Unknown}
@@ -39,24 +39,24 @@ or-true true = refl
 or-true false = refl
 
 module _ (r : Auction) (ts : List ℤ) (line out : List ℕ) where
-  by-test : (b : Bool) → (not (eqb (length ts) 69696) || ltb (length out) 274) ≡ b
+  by-test : (b : Bool) → (not (eqb (length ts) heldNumbers) || ltb (length out) longestAnswer) ≡ b
       → toldTo r ts line (length out) ≡ cond b (record { bytes = []; next = r; tables = ts }) (told r ts line)
   unfolding toldTo
   by-test b e = ap (λ (x : Bool). cond x (record { bytes = []; next = r; tables = ts }) (told r ts line)) e
 
-  nothing : (not (eqb (length ts) 69696) || ltb (length out) 274) ≡ true → Answers (toldTo r ts line (length out)) out out ts (record { length = 0; next = r })
+  nothing : (not (eqb (length ts) heldNumbers) || ltb (length out) longestAnswer) ≡ true → Answers (toldTo r ts line (length out)) out out ts (record { length = 0; next = r })
   nothing e =
       subst (λ (t : Told). Answers t out out ts (record { length = 0; next = r })) (sym (by-test true e))
       (record { next = refl; counted = refl; written = unfold writtenTo in refl; tables = refl; within = omega arith; part = refl })
 
-  pub other-tables : (length ts ≡ 69696 → ⊥) → Answers (toldTo r ts line (length out)) out out ts (record { length = 0; next = r })
-  other-tables ne = nothing (ap (λ (b : Bool). not b || ltb (length out) 274) (ne-eqb (length ts) 69696 ne))
+  pub other-tables : (length ts ≡ heldNumbers → ⊥) → Answers (toldTo r ts line (length out)) out out ts (record { length = 0; next = r })
+  other-tables ne = nothing (ap (λ (b : Bool). not b || ltb (length out) longestAnswer) (ne-eqb (length ts) heldNumbers ne))
 
-  pub no-room : length out < 274 → Answers (toldTo r ts line (length out)) out out ts (record { length = 0; next = r })
-  no-room l = nothing (ap (λ (b : Bool). not (eqb (length ts) 69696) || b) (lt-ltb (length out) 274 l) ∙ or-true (not (eqb (length ts) 69696)))
+  pub no-room : length out < longestAnswer → Answers (toldTo r ts line (length out)) out out ts (record { length = 0; next = r })
+  no-room l = nothing (ap (λ (b : Bool). not (eqb (length ts) heldNumbers) || b) (lt-ltb (length out) longestAnswer l) ∙ or-true (not (eqb (length ts) heldNumbers)))
 
   -- what was put, with the order's answer by its name
-  pub answers : (after : List ℕ) (left : List ℤ) (a : Answered) (t : Said) → length ts ≡ 69696 → 274 ≤ length out → told r ts line ≡ beside left t
+  pub answers : (after : List ℕ) (left : List ℤ) (a : Answered) (t : Said) → length ts ≡ heldNumbers → longestAnswer ≤ length out → told r ts line ≡ beside left t
       → Puts t out after a → Answers (toldTo r ts line (length out)) out after left a
   answers after left a t long l e p =
       subst (λ (u : Told). Answers u out after left a) (sym (by-test false room ∙ e))
@@ -69,15 +69,15 @@ module _ (r : Auction) (ts : List ℤ) (line out : List ℕ) where
         part = sym (length-take-le (a .length) after inside);
       })
     where
-      room : (not (eqb (length ts) 69696) || ltb (length out) 274) ≡ false
-      room = ap₂ (λ (x y : Bool). not x || y) (eq-eqb (length ts) 69696 long) (le-ltb (length out) 274 l)
+      room : (not (eqb (length ts) heldNumbers) || ltb (length out) longestAnswer) ≡ false
+      room = ap₂ (λ (x y : Bool). not x || y) (eq-eqb (length ts) heldNumbers long) (le-ltb (length out) longestAnswer l)
 
       inside : a .length ≤ length after
       inside = omega (arith, p .counted, p .small, ap length (p .put) ∙ length-sets out 0 (t .bytes), l)
 
 -- ---- the tables that are lent, and those that are kept
 
-module _ (ts : List ℤ) (long : length ts ≡ 69696) (n k : ℕ) (e : k ≡ min (n * 1089) 69696) where
+module _ (ts : List ℤ) (long : length ts ≡ heldNumbers) (n k : ℕ) (e : k ≡ min (n * 1089) heldNumbers) where
   cut-is : k ≡ min (n * 1089) (length ts)
   cut-is = e ∙ ap (min (n * 1089)) (sym long)
 
@@ -99,8 +99,8 @@ module _ (r : Auction) (ts : List ℤ) (line : List ℕ) (o : Order) (e : o ≡ 
   unfolding told
   by p q = ap (toldBy r ts line) (sym e ∙ q)
 
-  module _ (long : length ts ≡ 69696) (k : ℕ) where
-    pub told-open : (m n : ℕ) → k ≡ min (n * 1089) 69696 → o ≡ Open m n → (x : Reply) (left : List ℤ) → x ≡ openAuction m n (amountsOf line) (take k ts)
+  module _ (long : length ts ≡ heldNumbers) (k : ℕ) where
+    pub told-open : (m n : ℕ) → k ≡ min (n * 1089) heldNumbers → o ≡ Open m n → (x : Reply) (left : List ℤ) → x ≡ openAuction m n (amountsOf line) (take k ts)
         → left ≡ filledBy (openNumber m n (amountsOf line) (take k ts)) m n (take k ts) → told r ts line ≡ beside (left ++ drop k ts) (opens r x)
     unfolding toldBy fills
     told-open m n d q x left f g =
@@ -109,7 +109,7 @@ module _ (r : Auction) (ts : List ℤ) (line : List ℕ) (o : Order) (e : o ≡ 
         (keeps-is ts long n k d (λ l. filledBy (openNumber m n (amountsOf line) l) m n l) left g)
         (f ∙ ap (openAuction m n (amountsOf line)) (lent-is ts long n k d)))
 
-    pub told-above : (m n : ℕ) → k ≡ min (n * 1089) 69696 → o ≡ OpenAbove m n → (x : Reply) (left : List ℤ)
+    pub told-above : (m n : ℕ) → k ≡ min (n * 1089) heldNumbers → o ≡ OpenAbove m n → (x : Reply) (left : List ℤ)
         → x ≡ openAbove m n (startsOf m line) (floorsOf m line) (take k ts)
         → left ≡ filledBy (openAboveNumber m n (startsOf m line) (floorsOf m line) (take k ts)) m n (take k ts)
         → told r ts line ≡ beside (left ++ drop k ts) (opens r x)
@@ -120,7 +120,7 @@ module _ (r : Auction) (ts : List ℤ) (line : List ℕ) (o : Order) (e : o ≡ 
         (keeps-is ts long n k d (λ l. filledBy (openAboveNumber m n (startsOf m line) (floorsOf m line) l) m n l) left g)
         (f ∙ ap (openAbove m n (startsOf m line) (floorsOf m line)) (lent-is ts long n k d)))
 
-    module _ (d : k ≡ min (r .bidders * 1089) 69696) where
+    module _ (d : k ≡ min (r .bidders * 1089) heldNumbers) where
       pub told-report : (b : ℕ) (null : Bool) (set : ℕ) → o ≡ Report b null set → (x : Reply) → x ≡ report r (take k ts) b (saying null set)
           → told r ts line ≡ beside ts (replies x)
       unfolding toldBy
@@ -215,7 +215,7 @@ module _ (m n : ℕ) (start floors : List ℕ) (ts : List ℤ) where
 
   in-count : openAboveNumber m n start floors ts ≡ 0 → opened m n start floors .items ≤ 32
   unfolding opened
-  in-count q = opens-within m n start floors ts q .0
+  in-count q = opens-within m n start floors ts q .max-items
 
   pub above-items : (x : Reply) → x ≡ openAbove m n start floors ts → x .number ≡ 0 → x .next .items ≤ 32
   above-items x e z = go (openAboveNumber m n start floors ts) refl

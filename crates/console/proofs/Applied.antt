@@ -8,7 +8,7 @@ use lib.ListN.{length, getD, replicate, take-append-drop}
 use lib.IntN.{ℤ, pos, negsuc}
 use Rattle.sets.specs.Count.{anyBelow}
 use Rattle.sets.specs.Lists.{tabulate, places}
-use Rattle.rule.specs.Refusal.{first, badItems, badBidders, badLength, anyOver, anyUnder, badFloors}
+use Rattle.rule.specs.Refusal.{first, badItems, badLiveBidders, badLength, anyOver, anyUnder, badFloors}
 use Rattle.digits.specs.Digits.{digit, hex}
 use Rattle.digits.specs.Reading.{digitValue, digitAt, numberAt}
 use Rattle.lines.specs.Lines.{newline, joined, numberText, numberLine, amountsLine}
@@ -24,7 +24,7 @@ use Rattle.console.specs.declared.Order.the-variants.{Open, OpenAbove, R
 
 -- the definitions that the cases compute with
 computing : Unit {0}
-unfolding anyBelow tabulate places first badItems badBidders badLength anyOver anyUnder badFloors digit hex digitValue digitAt numberAt newline joined numberText numberLine amountsLine numbersAt openAboveNumber zeros opened unopened openedBy openAbove openNumber openAuction badTables filledBy starts alone amountsAt opening reporting orderOf amountsOf startsOf floorsOf pricesText opens lent keeps fills toldBy told
+unfolding anyBelow tabulate places first badItems badLiveBidders badLength anyOver anyUnder badFloors digit hex digitValue digitAt numberAt newline joined numberText numberLine amountsLine numbersAt openAboveNumber zeros opened unopened openedBy openAbove openNumber openAuction badTables filledBy starts alone amountsAt opening reporting orderOf amountsOf startsOf floorsOf pricesText opens lent keeps fills toldBy told
 computing = tt
 
 -- a line of this letter: 2 items, 1 bidder and these amounts
@@ -128,24 +128,24 @@ module _ (r : Auction) (ts : List ℤ) (line : List ℕ) where
   unfolding computing
   none-keeps = refl
 
-  -- with room for 64 bidders, and no other, the line is answered
-  pub right-room : length ts ≡ 69696 → toldTo r ts line 274 ≡ told r ts line
+  -- with room for 40 bidders, and no other, the line is answered
+  pub right-room : length ts ≡ 43560 → toldTo r ts line 226 ≡ told r ts line
   unfolding toldTo
   right-room e = simp e
 
-  pub less-room : length ts ≡ 69695 → toldTo r ts line 274 ≡ record { bytes = []; next = r; tables = ts }
+  pub less-room : length ts ≡ 43559 → toldTo r ts line 226 ≡ record { bytes = []; next = r; tables = ts }
   unfolding toldTo
   less-room e = simp e
 
-  pub more-room : length ts ≡ 69697 → toldTo r ts line 274 ≡ record { bytes = []; next = r; tables = ts }
+  pub more-room : length ts ≡ 43561 → toldTo r ts line 226 ≡ record { bytes = []; next = r; tables = ts }
   unfolding toldTo
   more-room e = simp e
 
-  pub few-bytes : toldTo r ts line 273 ≡ record { bytes = []; next = r; tables = ts }
+  pub few-bytes : toldTo r ts line 225 ≡ record { bytes = []; next = r; tables = ts }
   unfolding toldTo
-  few-bytes = go (not (eqb (length ts) 69696))
+  few-bytes = go (not (eqb (length ts) 43560))
     where
-      go : (b : Bool) → cond (b || ltb 273 274) (record { bytes = []; next = r; tables = ts }) (told r ts line) ≡ record { bytes = []; next = r; tables = ts }
+      go : (b : Bool) → cond (b || ltb 225 226) (record { bytes = []; next = r; tables = ts }) (told r ts line) ≡ record { bytes = []; next = r; tables = ts }
       go true = refl
       go false = refl
 

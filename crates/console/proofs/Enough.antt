@@ -14,7 +14,7 @@ use borrow.Author.Tests.{eqb-true, eq-eqb}
 use Rattle.sets.specs.Lists.{places}
 use Rattle.sets.proofs.Counting.{lt-or-le}
 use Rattle.sets.proofs.Lists.{places-length, take-places}
-use Rattle.rule.specs.Refusal.{badItems, badBidders}
+use Rattle.rule.specs.Refusal.{badItems, badLiveBidders}
 use Rattle.rule.proofs.Refusal.{in-range}
 use Rattle.live.specs.Calls.{openNumber, openAboveNumber, openAuction, openAbove}
 use Rattle.live.proofs.Opening.{one, two, three, three-floors, by-number, number-zero, zero-floors}
@@ -30,16 +30,16 @@ late false true = 1
 late false false = 2
 
 module _ (m n : ℕ) (ts : List ℤ) where
-  wrong : (start floors : List ℕ) → Wrong m start floors → openAboveNumber m n start floors ts ≡ suc (late (badItems m) (badBidders n))
-  wrong start floors w = go (badItems m) (badBidders n) refl refl
+  wrong : (start floors : List ℕ) → Wrong m start floors → openAboveNumber m n start floors ts ≡ suc (late (badItems m) (badLiveBidders n))
+  wrong start floors w = go (badItems m) (badLiveBidders n) refl refl
     where
-      three-of : badItems m ≡ false → badBidders n ≡ false → (t : Bool) → eqb (length start) m ≡ t → openAboveNumber m n start floors ts ≡ 3
+      three-of : badItems m ≡ false → badLiveBidders n ≡ false → (t : Bool) → eqb (length start) m ≡ t → openAboveNumber m n start floors ts ≡ 3
       three-of a b true e =
           let q = eqb-true (length start) m e in
           three-floors m n start floors ts a b q (w (in-range 32 m (unfold badItems in a) .1) q)
       three-of a b false e = three m n start floors ts a b (λ q. false≢true (sym e ∙ eq-eqb (length start) m q))
 
-      go : (x y : Bool) → badItems m ≡ x → badBidders n ≡ y → openAboveNumber m n start floors ts ≡ suc (late x y)
+      go : (x y : Bool) → badItems m ≡ x → badLiveBidders n ≡ y → openAboveNumber m n start floors ts ≡ suc (late x y)
       go true y a b = one m n start floors ts a
       go false true a b = two m n start floors ts a b
       go false false a b = three-of a b (eqb (length start) m) refl

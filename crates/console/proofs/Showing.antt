@@ -9,7 +9,7 @@ use lib.ListN.{length, set, take, drop, replicate, length-append, length-drop, l
 use lib.Seq.{sets, sets-eq, length-sets, set-comm, take-all, drop-drop}
 use borrow.Author.Tests.{le-ltb, not-false}
 use borrow.Rule.Slice.PartMut.{midOf, postOf, putMid}
-use Rattle.rule.specs.Refusal.{Refusal, on, first}
+use Rattle.rule.specs.Refusal.{Refusal, on, first, mostLiveBidders}
 use Rattle.rule.proofs.Refusal.{given, none}
 use Rattle.lines.specs.Lines.{newline, numberText, numberLine, closingLength, writtenTo}
 use Rattle.lines.proofs.Numbered.{number-long, refusal-put}
@@ -20,16 +20,16 @@ use Rattle.live.specs.Calls.{isClosed}
 use Rattle.live.specs.Reading.{tooFew, sheetOf, readNumber, readBytes}
 use Rattle.live.specs.declared.Auction.{Auction}
 use Rattle.live.proofs.Formed.{Formed, formed}
-use Rattle.console.specs.Answers.{sheetText, reads}
-use Rattle.console.specs.Steps.{Puts}
+use Rattle.console.specs.Answers.{longestSheet, sheetText, reads}
+use Rattle.console.specs.Steps.{longestAnswer, Puts}
 
 -- ---- the number does not depend on the bytes, if they are enough for any sheet
 
-enough : (r : Auction) (out : List ℕ) → 271 ≤ length out → wellFormed r ≡ true → tooFew r out ≡ false
+enough : (r : Auction) (out : List ℕ) → longestSheet ≤ length out → wellFormed r ≡ true → tooFew r out ≡ false
 unfolding closingLength
 enough r out l w = let f = formed r w in le-ltb (length out) (15 + 4 * r .items + 2 * r .bidders) (omega (arith, f .max-items, f .max-bidders))
 
-pub same-number : (r : Auction) (xs ys : List ℕ) → 271 ≤ length xs → 271 ≤ length ys → readNumber r xs ≡ readNumber r ys
+pub same-number : (r : Auction) (xs ys : List ℕ) → longestSheet ≤ length xs → longestSheet ≤ length ys → readNumber r xs ≡ readNumber r ys
 unfolding readNumber
 same-number r xs ys l h = go (wellFormed r) refl
   where
@@ -104,15 +104,15 @@ line-first l sheet x =
 
 -- ---- the answer
 
-module _ (r : Auction) (out after : List ℕ) (x : ℕ) (long : 274 ≤ length out) where
+module _ (r : Auction) (out after : List ℕ) (x : ℕ) (long : longestAnswer ≤ length out) where
   abbrev lent-bytes : List ℕ
   lent-bytes = midOf 3 (length out - 3) out
 
-  lent-long : 271 ≤ length lent-bytes
-  lent-long = subst (λ (l : List ℕ). 271 ≤ length l) (sym (lent-is out (omega arith))) (omega (arith, length-drop 3 out))
+  lent-long : longestSheet ≤ length lent-bytes
+  lent-long = subst (λ (l : List ℕ). longestSheet ≤ length l) (sym (lent-is out (omega arith))) (omega (arith, length-drop 3 out))
 
-  number-is : x ≡ readNumber r lent-bytes → x ≡ readNumber r (replicate 271 0)
-  number-is e = e ∙ same-number r lent-bytes (replicate 271 0) lent-long (omega (arith, length-replicate {A = ℕ} 271 0))
+  number-is : x ≡ readNumber r lent-bytes → x ≡ readNumber r (replicate longestSheet 0)
+  number-is e = e ∙ same-number r lent-bytes (replicate longestSheet 0) lent-long (omega (arith, length-replicate {A = ℕ} longestSheet 0))
 
   reads-as : x ≡ readNumber r lent-bytes → reads r ≡ record { bytes = numberLine x ++ sheetText r x; next = r }
   unfolding reads
@@ -183,5 +183,5 @@ module _ (r : Auction) (out after : List ℕ) (x : ℕ) (long : 274 ≤ length o
         h = refusal-put mid after x (omega (arith, ap length put-sheet, length-sets out 3 (sheetOf r), long)) line
 
   -- how much is counted without a wrap
-  pub shown-small : x ≡ readNumber r lent-bytes → x ≡ 0 → (r .items ≤ 32) × (r .bidders ≤ 64)
+  pub shown-small : x ≡ readNumber r lent-bytes → x ≡ 0 → (r .items ≤ 32) × (r .bidders ≤ mostLiveBidders)
   shown-small e z = let f = formed r (read-formed r lent-bytes (sym e ∙ z)) in (f .max-items, f .max-bidders)

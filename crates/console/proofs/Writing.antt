@@ -20,12 +20,12 @@ use Rattle.live.specs.Calls.{Ending, gives, refused}
 use Rattle.live.specs.declared.Auction.{Auction}
 use Rattle.live.specs.declared.Reply.{Reply}
 use Rattle.console.specs.Answers.{pricesText, roundText, Said, opens, replies, ends}
-use Rattle.console.specs.Steps.{Puts}
+use Rattle.console.specs.Steps.{longestAnswer, Puts}
 use Rattle.console.specs.declared.Answered.{Answered}
 
 -- ---- a number
 
-pub reply-put : (o : Reply) (out after : List ℕ) → 274 ≤ length out → after ≡ cond (ltb (length out) 3) out (sets out 0 (numberLine (o .number)))
+pub reply-put : (o : Reply) (out after : List ℕ) → longestAnswer ≤ length out → after ≡ cond (ltb (length out) 3) out (sets out 0 (numberLine (o .number)))
     → Puts (replies o) out after (record { length = 3; next = o .next })
 unfolding replies
 reply-put o out after l e =
@@ -64,7 +64,7 @@ module _ (r : Auction) (o : Reply) (out after : List ℕ) (a : Answered) where
   open-kept ne p = subst (λ (t : Said). Puts t out after a) (opens-not (o .number) refl ne) p
 
   -- and one that is not
-  pub open-put : (mid : List ℕ) → o .number ≡ 0 → o .next .items ≤ 32 → 274 ≤ length out → mid ≡ cond (ltb (length out) 2) out (sets out 0 (numberText 0))
+  pub open-put : (mid : List ℕ) → o .number ≡ 0 → o .next .items ≤ 32 → longestAnswer ≤ length out → mid ≡ cond (ltb (length out) 2) out (sets out 0 (numberText 0))
       → a ≡ record { length = 3 + 4 * o .next .items; next = o .next } → after ≡ sets mid 2 (pricesText (o .next)) → Puts (opens r o) out after a
   open-put mid z l room two q f =
       let e = two-put out mid 0 (omega arith) two in

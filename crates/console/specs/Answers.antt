@@ -1,9 +1,10 @@
 -- What the console answers to a line, and the record and the tables it keeps. Assumes nothing: these are definitions.
-use Prim.Native.Nat.{ℕ, zero, suc, _*_}
+use Prim.Native.Nat.{ℕ, zero, suc, _+_, _*_}
 use mathlib.Core.List.{List, [], _++_}
 use lib.ListN.{replicate, take, drop}
 use lib.IntN.{ℤ}
 use Rattle.rule.specs.Round.{Round, raised, lowered, closed}
+use Rattle.rule.specs.Refusal.{mostLiveBidders}
 use Rattle.digits.specs.Digits.{hex}
 use Rattle.lines.specs.Lines.{numberText, numberLine, amountsLine}
 use Rattle.reports.specs.Report.{saying}
@@ -55,12 +56,15 @@ unfoldable pub ends : Ending → Auction → Said
 ends (gives o) next = record { bytes = numberText 0 ++ roundText o ++ pricesText next; next = next }
 ends (refused x) next = record { bytes = numberLine x; next = next }
 
--- a read: its number on a line, and the closing sheet where it is 0. The bytes lent to it are never too few
+-- a read: its number on a line, and the closing sheet where it is 0. The bytes lent to it are never too few: they are as many as the sheet of the most items and bidders has
+abbrev pub longestSheet : ℕ
+longestSheet = 15 + 4 * 32 + 2 * mostLiveBidders
+
 unfoldable pub sheetText : Auction → ℕ → List ℕ
 sheetText r x = elim x [ zero ↦ sheetOf r | suc j ↦ [] ]
 
 unfoldable pub reads : Auction → Said
-reads r = let x : ℕ = readNumber r (replicate 271 0) in record { bytes = numberLine x ++ sheetText r x; next = r }
+reads r = let x : ℕ = readNumber r (replicate longestSheet 0) in record { bytes = numberLine x ++ sheetText r x; next = r }
 
 -- the tables that a call for n bidders is lent, of those that the console holds: the first ones, 1,089 numbers for each bidder
 unfoldable pub lent : (bidders : ℕ) → List ℤ → List ℤ

@@ -24,7 +24,13 @@ ghost use Rattle.rule.specs.Round.{Round};
 ghost use Rattle.live.specs.Calls.{openNumber, openAboveNumber, openAuction, openAbove, filledBy, endingOf, gives};
 ghost use Rattle.console.specs.Orders.{opening, reporting, orderOf, amountsAt, amountsOf, startsOf, floorsOf};
 ghost use Rattle.console.specs.Answers.{pricesText, opens, replies, ends, reads};
-ghost use Rattle.console.specs.Steps.{openBy, letterOrder, isRead, Puts, toldTo, Answers};
+ghost use Rattle.console.specs.Steps.{longestAnswer, heldNumbers, openBy, letterOrder, isRead, Puts, toldTo, Answers};
+
+// How many numbers the tables have that the console holds: 1,089 for each of the most bidders.
+pub const HELD_NUMBERS: usize = live::MOST_BIDDERS * 1089;
+
+// The longest answer: a number's line and the three lines of the most items and bidders.
+const LONGEST_ANSWER: usize = 18 + 4 * 32 + 2 * live::MOST_BIDDERS;
 
 // The order of a line. The starting prices and floors of an opening stay in the line.
 pub enum Order {
@@ -238,7 +244,7 @@ pub fn order_of(line: &[u8]) -> Order
 
 // The answer to a report or a clear.
 fn replied(out: &mut [u8], reply: Reply) -> Answered
-    requires { ⌜ 274 ≤ length (now out) ⌝ }
+    requires { ⌜ longestAnswer ≤ length (now out) ⌝ }
     ensures { λ r. ⌜ Puts (replies reply) (now (out .entry)) (now (out .exit)) r ⌝ }
 {
     lines::write_refusal(out, reply.number);
@@ -248,7 +254,7 @@ fn replied(out: &mut [u8], reply: Reply) -> Answered
 
 // The record's prices, behind `at` bytes and to the line's end.
 fn priced(out: &mut [u8], at: usize, next: Auction) -> Answered
-    requires { ⌜ (next .items ≤ 32) × (at ≤ 12) × (274 ≤ length (now out)) ⌝ }
+    requires { ⌜ (next .items ≤ 32) × (at ≤ 12) × (longestAnswer ≤ length (now out)) ⌝ }
     ensures { λ r. ⌜ (r ≡ record { length = at + 1 + 4 * next .items; next = next }) × (now (out .exit) ≡ sets (now (out .entry)) at (pricesText next)) ⌝ }
 {
     let items = next.items;
@@ -262,7 +268,7 @@ fn priced(out: &mut [u8], at: usize, next: Auction) -> Answered
 
 // The answer to an opening. One that is turned down leaves the record that is held.
 fn opened(out: &mut [u8], held: Auction, reply: Reply) -> Answered
-    requires { ⌜ (274 ≤ length (now out)) × (reply .number ≡ 0 → reply .next .items ≤ 32) ⌝ }
+    requires { ⌜ (longestAnswer ≤ length (now out)) × (reply .number ≡ 0 → reply .next .items ≤ 32) ⌝ }
     ensures { λ r. ⌜ Puts (opens held reply) (now (out .entry)) (now (out .exit)) r ⌝ }
 {
     let number = reply.number;
@@ -285,7 +291,7 @@ fn put_round(out: &mut [u8], kind: u32, set: u32)
 
 // The answer to an end that was not turned down.
 fn moved(out: &mut [u8], kind: u32, set: u32, next: Auction) -> Answered
-    requires { ⌜ (274 ≤ length (now out)) × (next .items ≤ 32) ⌝ }
+    requires { ⌜ (longestAnswer ≤ length (now out)) × (next .items ≤ 32) ⌝ }
     ensures { λ r. ⌜ Puts (record { bytes = numberText 0 ++ (hex 2 kind ++ hex 8 set) ++ pricesText next; next = next }) (now (out .entry)) (now (out .exit)) r ⌝ }
 {
     put_round(out, kind, set);
@@ -294,7 +300,7 @@ fn moved(out: &mut [u8], kind: u32, set: u32, next: Auction) -> Answered
 
 // The answer to an end.
 fn ended(out: &mut [u8], step: Step) -> Answered
-    requires { ⌜ (274 ≤ length (now out)) × ((o : Round) → endingOf (step .ended) ≡ gives o → step .next .items ≤ 32) ⌝ }
+    requires { ⌜ (longestAnswer ≤ length (now out)) × ((o : Round) → endingOf (step .ended) ≡ gives o → step .next .items ≤ 32) ⌝ }
     ensures { λ r. ⌜ Puts (ends (endingOf (step .ended)) (step .next)) (now (out .entry)) (now (out .exit)) r ⌝ }
 {
     let next = step.next;
@@ -311,7 +317,7 @@ fn ended(out: &mut [u8], step: Step) -> Answered
 
 // The answer to a read: the sheet stands behind the number's line.
 fn shown(out: &mut [u8], held: Auction) -> Answered
-    requires { ⌜ 274 ≤ length (now out) ⌝ }
+    requires { ⌜ longestAnswer ≤ length (now out) ⌝ }
     ensures { λ r. ⌜ Puts (reads held) (now (out .entry)) (now (out .exit)) r ⌝ }
 {
     let number = held.read(&mut out[3..]);
@@ -328,28 +334,28 @@ fn shown(out: &mut [u8], held: Auction) -> Answered
     }
 }
 
-// How many numbers of the tables are lent for so many bidders: 1,089 for each, and all of them for more than 64.
+// How many numbers of the tables are lent for so many bidders: 1,089 for each, and all of them for more than the most.
 fn cut(bidders: usize) -> usize
-    ensures { λ r. ⌜ r ≡ min (bidders * 1089) 69696 ⌝ }
+    ensures { λ r. ⌜ r ≡ min (bidders * 1089) heldNumbers ⌝ }
 {
-    if bidders <= 64 {
+    if bidders <= live::MOST_BIDDERS {
         return bidders * 1089;
     }
-    69696
+    HELD_NUMBERS
 }
 
-// Answers a line: what is written to the front of `out`, the record to keep, and the tables, which have room for 64 bidders'. Where they have not 69,696
-// numbers, or `out` has fewer than 274 bytes, nothing is done.
+// Answers a line: what is written to the front of `out`, the record to keep, and the tables, which are those of the most bidders. Where these are not 43,560
+// numbers, or `out` has fewer than 226 bytes, nothing is done.
 pub fn answer(held: Auction, line: &[u8], out: &mut [u8], tables: &mut [i16]) -> Answered
     ensures { λ r. ⌜ Answers (toldTo held (now (tables .entry)) (now (line .entry)) (length (now (out .entry)))) (now (out .entry)) (now (out .exit)) (now (tables .exit)) r ⌝ }
 {
-    if tables.len() != 69696 {
+    if tables.len() != HELD_NUMBERS {
         return Answered {
             length: 0,
             next: held,
         };
     }
-    if out.len() < 274 {
+    if out.len() < LONGEST_ANSWER {
         return Answered {
             length: 0,
             next: held,

@@ -20,7 +20,7 @@ use Rattle.rule.specs.Demand.{Demand, wants, nth}
 use Rattle.rule.specs.Round.{raised, lowered, closed}
 use Rattle.rule.specs.Excess.{bidders, crowded, inExcess, inPositiveExcess, excessDemand, positiveExcessDemand, excessSupply, aboveFloors}
 use Rattle.rule.specs.Assignment.{option, holders, isAssignment, fits, someList, choose, assignment}
-use Rattle.rule.specs.Refusal.{first, badItems, badBidders, badLength, anyOver, anyUnder, badFloors}
+use Rattle.rule.specs.Refusal.{first, badItems, badLiveBidders, badLength, anyOver, anyUnder, badFloors}
 use Rattle.lines.specs.Lines.{joined, amountsLine, closingSheet, closingLength, writtenTo}
 use Rattle.round.specs.Reports.{reports}
 use Rattle.reports.specs.Report.{isEmpty, beyond, unfit}
@@ -34,7 +34,7 @@ use Rattle.live.specs.declared.Phase.the-variants.{Rising, Falling, Clos
 
 -- the definitions that the cases compute with
 computing : Unit {0}
-unfolding amount wants nth bidders crowded inExcess inPositiveExcess excessDemand positiveExcessDemand excessSupply aboveFloors allBelow anyBelow count bit isSet has setOf each any size largestBelow largest sum priceSum first badItems badBidders badLength anyOver anyUnder badFloors tabulate places reports place hasReported missing isEmpty beyond unfit reportsOf itemsAbove risingSet fallingSet countsFit pricesFit unusedPrices floorsFit fromFloors unusedFloors unusedPlaces unusedBits reportedFit othersEmpty roundsFit closeFits wellFormed badTables openNumber openAboveNumber zeros opened unopened openedBy openAuction openAbove filledBy reportNumber report clearNumber endNumber endAnswer endNext narrowedBy endTables lowest option holders isAssignment fits someList choose assignment joined amountsLine closingSheet closingLength writtenTo readNumber namesOf sheetOf readBytes
+unfolding amount wants nth bidders crowded inExcess inPositiveExcess excessDemand positiveExcessDemand excessSupply aboveFloors allBelow anyBelow count bit isSet has setOf each any size largestBelow largest sum priceSum first badItems badLiveBidders badLength anyOver anyUnder badFloors tabulate places reports place hasReported missing isEmpty beyond unfit reportsOf itemsAbove risingSet fallingSet countsFit pricesFit unusedPrices floorsFit fromFloors unusedFloors unusedPlaces unusedBits reportedFit othersEmpty roundsFit closeFits wellFormed badTables openNumber openAboveNumber zeros opened unopened openedBy openAuction openAbove filledBy reportNumber report clearNumber endNumber endAnswer endNext narrowedBy endTables lowest option holders isAssignment fits someList choose assignment joined amountsLine closingSheet closingLength writtenTo readNumber namesOf sheetOf readBytes
 computing = tt
 
 -- number 11 lets the first record pass, and turns the second down
@@ -99,7 +99,7 @@ pub items-low : Tells (counting 1 1) (counting 0 1)
 unfolding computing
 items-low = record { passes = refl; refuses = refl }
 
-pub items-high : Tells (counting 32 64) (counting 33 64)
+pub items-high : Tells (counting 32 40) (counting 33 40)
 unfolding computing
 items-high = record { passes = refl; refuses = refl }
 
@@ -107,7 +107,7 @@ pub bidders-low : Tells (counting 32 1) (counting 32 0)
 unfolding computing
 bidders-low = record { passes = refl; refuses = refl }
 
-pub bidders-high : Tells (counting 1 64) (counting 1 65)
+pub bidders-high : Tells (counting 1 40) (counting 1 41)
 unfolding computing
 bidders-high = record { passes = refl; refuses = refl }
 
@@ -173,10 +173,27 @@ pub reported-past : Tells (saying [] 4 4) (saying [] 4 12)
 unfolding computing
 reported-past = record { passes = refl; refuses = refl }
 
--- bidder 64's report of item 32 beside null: place 64 and its bits are used by 64 bidders, and unused by 63
-pub last-places : Tells (holds 32 64 [] [] (set (replicate 64 0) 63 2147483648) 9223372036854775808 9223372036854775808 Rising 0 0) (holds 32 63 [] [] (set (replicate 64 0) 63 2147483648) 9223372036854775808 9223372036854775808 Rising 0 0)
+-- bidder 40's report of item 32 beside null: place 40 and its bits are used by 40 bidders, and unused by 39
+pub last-used : Tells (holds 32 40 [] [] (set (replicate 64 0) 39 2147483648) 549755813888 549755813888 Rising 0 0) (holds 32 39 [] [] (set (replicate 64 0) 39 2147483648) 549755813888 549755813888 Rising 0 0)
 unfolding computing
-last-places = record { passes = refl; refuses = refl }
+last-used = record { passes = refl; refuses = refl }
+
+-- places 41 to 64 are unused by the most bidders too: an item in the first of them and in the last, and the last bit of who says null and of who has reported
+pub set-41 : Tells (counting 32 40) (holds 32 40 [] [] (set (replicate 64 0) 40 1) 0 0 Rising 0 0)
+unfolding computing
+set-41 = record { passes = refl; refuses = refl }
+
+pub set-64 : Tells (counting 32 40) (holds 32 40 [] [] (set (replicate 64 0) 63 1) 0 0 Rising 0 0)
+unfolding computing
+set-64 = record { passes = refl; refuses = refl }
+
+pub null-64 : Tells (counting 32 40) (holds 32 40 [] [] [] 9223372036854775808 0 Rising 0 0)
+unfolding computing
+null-64 = record { passes = refl; refuses = refl }
+
+pub reported-64 : Tells (counting 32 40) (holds 32 40 [] [] [] 0 9223372036854775808 Rising 0 0)
+unfolding computing
+reported-64 = record { passes = refl; refuses = refl }
 
 -- ---- the report of a bidder who has reported is one that 8 refuses: empty, or with an item beyond the count
 
@@ -314,9 +331,14 @@ unfolding computing
 start-short = refl
 
 -- before that 1, and then 2, where nothing fits
-pub counts-first : (openAboveNumber 0 0 (1 ∷ []) [] (lent 1) ≡ 1) × (openAboveNumber 33 65 [] [] [] ≡ 1) × (openAboveNumber 1 0 [] [] (lent 1) ≡ 2) × (openAboveNumber 32 65 [] [] [] ≡ 2)
+pub counts-first : (openAboveNumber 0 0 (1 ∷ []) [] (lent 1) ≡ 1) × (openAboveNumber 33 41 [] [] [] ≡ 1) × (openAboveNumber 1 0 [] [] (lent 1) ≡ 2) × (openAboveNumber 32 41 [] [] [] ≡ 2)
 unfolding computing
 counts-first = (refl, refl, refl, refl)
+
+-- 40 bidders are not turned down by 2, with floors and without, and 41 are
+pub forty : (openAboveNumber 32 40 [] [] [] ≡ 3) × (openNumber 32 40 [] [] ≡ 3) × (openNumber 32 41 [] [] ≡ 2)
+unfolding computing
+forty = (refl, refl, refl)
 
 -- the record holds the starting prices and the floors
 pub opens-above : openAbove 2 1 (5 ∷ 4 ∷ []) (3 ∷ 4 ∷ []) (lent 1089) ≡ record { number = 0; next = holds 2 1 (5 ∷ 4 ∷ []) (3 ∷ 4 ∷ []) [] 0 0 Rising 0 0 }
@@ -330,7 +352,7 @@ opens-not = refl
 
 -- ---- openings without floors: 1, 2, 3 (starting prices, tables), 4
 
-pub without-floors : (openNumber 33 0 [] [] ≡ 1) × (openNumber 2 65 [] [] ≡ 2) × (openNumber 2 1 (4096 ∷ []) (lent 1089) ≡ 3) × (openNumber 2 1 (5 ∷ 4096 ∷ []) (lent 1089) ≡ 4) × (openNumber 2 1 (5 ∷ 4095 ∷ []) (lent 1089) ≡ 0)
+pub without-floors : (openNumber 33 0 [] [] ≡ 1) × (openNumber 2 41 [] [] ≡ 2) × (openNumber 2 1 (4096 ∷ []) (lent 1089) ≡ 3) × (openNumber 2 1 (5 ∷ 4096 ∷ []) (lent 1089) ≡ 4) × (openNumber 2 1 (5 ∷ 4095 ∷ []) (lent 1089) ≡ 0)
 unfolding computing
 without-floors = (refl, refl, refl, refl, refl)
 

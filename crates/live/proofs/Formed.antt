@@ -11,7 +11,7 @@ use borrow.Author.Tests.{le-leb, leb-true, eqb-true, eq-eqb}
 use Rattle.sets.specs.Count.{_⇒_, allBelow}
 use Rattle.sets.proofs.Counting.{and-left, and-right, and-both, all-use, all-make, imp-use, imp-make, not-is, together}
 use Rattle.rule.specs.Sheet.{amount}
-use Rattle.rule.specs.Refusal.{badItems, badBidders, anyOver, anyUnder}
+use Rattle.rule.specs.Refusal.{badItems, mostLiveBidders, badLiveBidders, anyOver, anyUnder}
 use Rattle.rule.proofs.Refusal.{in-range, range-in, none-over, over-not, none-under, under-not}
 use Rattle.reports.specs.Report.{isEmpty, beyond, unfit}
 use Rattle.live.specs.Auction.{place, hasReported, countsFit, pricesFit, unusedPrices, floorsFit, fromFloors, unusedFloors, unusedPlaces, unusedBits, reportedFit, othersEmpty, roundsFit, closeFits, wellFormed}
@@ -51,7 +51,7 @@ pub record Formed (r : Auction) : Type 0 where
   pub some-item : 1 ≤ r .items
   pub max-items : r .items ≤ 32
   pub some-bidder : 1 ≤ r .bidders
-  pub max-bidders : r .bidders ≤ 64
+  pub max-bidders : r .bidders ≤ mostLiveBidders
   pub price-max : (i : ℕ) → amount (r .prices) i ≤ 4095
   pub unused-price : (k : ℕ) → k < 32 → r .items ≤ k → amount (r .prices) (suc k) ≡ 0
   pub floor-max : (i : ℕ) → amount (r .floors) i ≤ 4095
@@ -141,16 +141,20 @@ joined r c =
 module _ (r : Auction) where
   pub items-range : countsFit r ≡ true → (1 ≤ r .items) × (r .items ≤ 32)
   unfolding countsFit badItems
-  items-range e = in-range 32 (r .items) (not-is (badItems (r .items)) (and-left (not (badItems (r .items))) (not (badBidders (r .bidders))) e))
+  items-range e = in-range 32 (r .items) (not-is (badItems (r .items)) (and-left (not (badItems (r .items))) (not (badLiveBidders (r .bidders))) e))
 
-  pub bidders-range : countsFit r ≡ true → (1 ≤ r .bidders) × (r .bidders ≤ 64)
-  unfolding countsFit badBidders
-  bidders-range e = in-range 64 (r .bidders) (not-is (badBidders (r .bidders)) (and-right (not (badItems (r .items))) (not (badBidders (r .bidders))) e))
+  pub bidders-range : countsFit r ≡ true → (1 ≤ r .bidders) × (r .bidders ≤ mostLiveBidders)
+  unfolding countsFit badLiveBidders
+  bidders-range e = in-range mostLiveBidders (r .bidders) (not-is (badLiveBidders (r .bidders)) (and-right (not (badItems (r .items))) (not (badLiveBidders (r .bidders))) e))
 
-  counts-make : 1 ≤ r .items → r .items ≤ 32 → 1 ≤ r .bidders → r .bidders ≤ 64 → countsFit r ≡ true
-  unfolding countsFit badItems badBidders
+  -- so there is a place for each bidder
+  pub bidders-placed : countsFit r ≡ true → r .bidders ≤ 64
+  bidders-placed e = omega (arith, bidders-range e .1)
+
+  counts-make : 1 ≤ r .items → r .items ≤ 32 → 1 ≤ r .bidders → r .bidders ≤ mostLiveBidders → countsFit r ≡ true
+  unfolding countsFit badItems badLiveBidders
   counts-make a b c d =
-      and-both (not (badItems (r .items))) (not (badBidders (r .bidders))) (ap not (range-in 32 (r .items) a b)) (ap not (range-in 64 (r .bidders) c d))
+      and-both (not (badItems (r .items))) (not (badLiveBidders (r .bidders))) (ap not (range-in 32 (r .items) a b)) (ap not (range-in mostLiveBidders (r .bidders) c d))
 
   pub prices-use : pricesFit r ≡ true → (i : ℕ) → amount (r .prices) i ≤ 4095
   unfolding pricesFit

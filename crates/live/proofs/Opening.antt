@@ -8,8 +8,8 @@ use lib.ListN.{length, replicate, length-replicate}
 use lib.IntN.{ℤ}
 use borrow.Author.Tests.{eqb-true, eq-eqb, ne-eqb, not-false}
 use Rattle.rule.specs.Sheet.{amount}
-use Rattle.rule.specs.Refusal.{on, first, badItems, badBidders, badLength, anyOver, anyUnder, badFloors}
-use Rattle.rule.proofs.Refusal.{passed, given, first-nil, none, in-range, exact, inexact, floors-test, floors-none}
+use Rattle.rule.specs.Refusal.{on, first, badItems, mostLiveBidders, badLiveBidders, badLength, anyOver, anyUnder, badFloors}
+use Rattle.rule.proofs.Refusal.{passed, given, first-nil, none, in-range, exact, inexact, exact-is, floors-test, floors-none}
 use Rattle.live.specs.Tables.{badTables, openTables}
 use Rattle.live.specs.Calls.{openNumber, openAboveNumber, opened, unopened, openedBy, openAuction, openAbove, filledBy}
 use Rattle.live.proofs.Formed.{not-over}
@@ -30,6 +30,18 @@ tables-long n ts e = eqb-true (length ts) (n * 1089) (not-false (eqb (length ts)
 
 -- ---- the number
 
+-- no number applies: the counts are within their limits, the lengths exact, no starting price is above 4,095 and no floor bad
+pub record Opens (m n : ℕ) (start floors : List ℕ) (ts : List ℤ) : Type 0 where
+  pub some-item : 1 ≤ m
+  pub max-items : m ≤ 32
+  pub some-bidder : 1 ≤ n
+  pub max-bidders : n ≤ mostLiveBidders
+  pub start-long : length start ≡ m
+  pub floors-long : length floors ≡ m
+  pub lent-long : length ts ≡ n * 1089
+  pub starts : anyOver start ≡ false
+  pub lows : badFloors start floors ≡ false
+
 module _ (m n : ℕ) (start floors : List ℕ) (ts : List ℤ) where
   abbrev number : ℕ
   number = openAboveNumber m n start floors ts
@@ -39,14 +51,14 @@ module _ (m n : ℕ) (start floors : List ℕ) (ts : List ℤ) where
   one e = given 1 (badItems m) _ e
 
   module _ (a : badItems m ≡ false) where
-    pub two : badBidders n ≡ true → number ≡ 2
+    pub two : badLiveBidders n ≡ true → number ≡ 2
     unfolding openAboveNumber
-    two e = passed 1 (badItems m) _ a ∙ given 2 (badBidders n) _ e
+    two e = passed 1 (badItems m) _ a ∙ given 2 (badLiveBidders n) _ e
 
-    module _ (b : badBidders n ≡ false) where
+    module _ (b : badLiveBidders n ≡ false) where
       past-two : number ≡ first (on 3 (badLength start m) ∷ on 3 (badLength floors m) ∷ on 3 (badTables n ts) ∷ on 4 (anyOver start) ∷ on 18 (badFloors start floors) ∷ [])
       unfolding openAboveNumber
-      past-two = passed 1 (badItems m) _ a ∙ passed 2 (badBidders n) _ b
+      past-two = passed 1 (badItems m) _ a ∙ passed 2 (badLiveBidders n) _ b
 
       pub three : (length start ≡ m → ⊥) → number ≡ 3
       three ne = past-two ∙ given 3 (badLength start m) _ (inexact start m ne)
@@ -101,14 +113,27 @@ module _ (m n : ℕ) (start floors : List ℕ) (ts : List ℤ) where
   turned-down zero e ne = absurd (ne refl)
   turned-down (suc j) e ne = (sym (by-number j (sym e)), ap (λ (x : ℕ). filledBy x m n ts) e)
 
-  -- no number: the counts and the tables' length are right, and the tables are filled
-  pub opens : number ≡ 0 → (m ≤ 32) × (n ≤ 64) × (length ts ≡ n * 1089)
-  unfolding openAboveNumber badItems badBidders
+  pub opens : number ≡ 0 → Opens m n start floors ts
+  unfolding openAboveNumber badItems badLiveBidders
   opens e =
-      let a = none 0 (badItems m) _ e in
-      let b = none 1 (badBidders n) _ (a .1) in
-      let t = none 2 (badTables n ts) _ (none 2 (badLength floors m) _ (none 2 (badLength start m) _ (b .1) .1) .1) in
-      (in-range 32 m (a .0) .1, in-range 64 n (b .0) .1, tables-long n ts (t .0))
+      let q₁ = none 0 (badItems m) _ e in
+      let q₂ = none 1 (badLiveBidders n) _ (q₁ .1) in
+      let q₃ = none 2 (badLength start m) _ (q₂ .1) in
+      let q₄ = none 2 (badLength floors m) _ (q₃ .1) in
+      let q₅ = none 2 (badTables n ts) _ (q₄ .1) in
+      let q₆ = none 3 (anyOver start) _ (q₅ .1) in
+      let q₇ = none 17 (badFloors start floors) [] (q₆ .1) in
+      record {
+        some-item = in-range 32 m (q₁ .0) .0;
+        max-items = in-range 32 m (q₁ .0) .1;
+        some-bidder = in-range mostLiveBidders n (q₂ .0) .0;
+        max-bidders = in-range mostLiveBidders n (q₂ .0) .1;
+        start-long = exact-is start m (q₃ .0);
+        floors-long = exact-is floors m (q₄ .0);
+        lent-long = tables-long n ts (q₅ .0);
+        starts = q₆ .0;
+        lows = q₇ .0;
+      }
 
   pub fills : number ≡ 0 → filledBy number m n ts ≡ openTables m n
   unfolding filledBy
@@ -119,7 +144,7 @@ module _ (m n : ℕ) (start floors : List ℕ) (ts : List ℤ) where
 pub number-zero : (m n : ℕ) (start : List ℕ) (ts : List ℤ) → openAboveNumber m n start (replicate m 0) ts ≡ openNumber m n start ts
 unfolding openAboveNumber openNumber first
 number-zero m n start ts =
-    ap₂ (λ (x y : Bool). first (on 1 (badItems m) ∷ on 2 (badBidders n) ∷ on 3 (badLength start m) ∷ on 3 x ∷ on 3 (badTables n ts) ∷ on 4 (anyOver start) ∷ on 18 y ∷ []))
+    ap₂ (λ (x y : Bool). first (on 1 (badItems m) ∷ on 2 (badLiveBidders n) ∷ on 3 (badLength start m) ∷ on 3 x ∷ on 3 (badTables n ts) ∷ on 4 (anyOver start) ∷ on 18 y ∷ []))
     (exact (replicate m 0) m (length-replicate {A = ℕ} m 0)) (floors-none start m)
 
 pub zero-floors : (m n : ℕ) (start : List ℕ) (ts : List ℤ) → openAbove m n start (replicate m 0) ts ≡ openAuction m n start ts

@@ -25,7 +25,7 @@ use Rattle.live.specs.Calls.{isClosed}
 use Rattle.live.specs.Reading.{tooFew, namesOf, sheetOf, readNumber, readBytes}
 use Rattle.live.specs.Tidy.{Tidy}
 use Rattle.live.specs.declared.Auction.{Auction}
-use Rattle.live.proofs.Formed.{items-range, bidders-range}
+use Rattle.live.proofs.Formed.{items-range, bidders-placed}
 use Rattle.live.proofs.Sets.{Sets, above-lt, reported}
 
 module _ (r : Auction) (t : Tidy r) where
@@ -35,7 +35,7 @@ module _ (r : Auction) (t : Tidy r) where
   unfolding namesOf reportsOf
   names-here s above q =
       ap (λ (x : ℕ). assigned (r .sets) (r .nulls) x (r .bidders)) q
-      ∙ sym (assigned-is (r .sets) (r .nulls) (itemsAbove r) (r .bidders) (bidders-range r (t .counts) .1))
+      ∙ sym (assigned-is (r .sets) (r .nulls) (itemsAbove r) (r .bidders) (bidders-placed r (t .counts)))
       ∙ ap (places 64) (assignment-narrow (r .items) (r .bidders) (r .sets) (reported r t s) (r .nulls) (itemsAbove r) (above-lt r))
 
   -- ---- the sheet
@@ -43,7 +43,7 @@ module _ (r : Auction) (t : Tidy r) where
   sheet-here : closingSheet (r .items) (r .bidders) (r .raised) (r .lowered) (r .prices) (places 64 (namesOf r)) ≡ sheetOf r
   unfolding sheetOf
   sheet-here =
-      let most = bidders-range r (t .counts) .1 in
+      let most = bidders-placed r (t .counts) in
       sheet-same (r .items) (r .bidders) (r .raised) (r .lowered) (r .prices) (r .prices) (places 64 (namesOf r)) (namesOf r)
       (λ k l. refl) (λ b l. places-at 64 (namesOf r) b (omega (arith, l, most)))
 
@@ -52,7 +52,7 @@ module _ (r : Auction) (t : Tidy r) where
 
   writes-here : (out : List ℕ) → writes (r .items) (r .bidders) (closingLength (r .items) (r .bidders)) (length out) ≡ not (tooFew r out)
   writes-here out =
-      writes-by (r .items) (r .bidders) long (length out) true (few-make (r .items) (r .bidders) (items-range r (t .counts) .1) (bidders-range r (t .counts) .1))
+      writes-by (r .items) (r .bidders) long (length out) true (few-make (r .items) (r .bidders) (items-range r (t .counts) .1) (bidders-placed r (t .counts)))
       ∙ go (lt-or-le (length out) long)
     where
       go : (length out < long) ⊎ (long ≤ length out) → leb long (length out) ≡ not (ltb (length out) long)

@@ -24,7 +24,7 @@ use Rattle.reports.specs.Report.{isEmpty, beyond}
 use Rattle.live.specs.Auction.{place, itemsAbove, reportsOf, risingSet, fallingSet, pricesFit}
 use Rattle.live.specs.Tidy.{Tidy}
 use Rattle.live.specs.declared.Auction.{Auction}
-use Rattle.live.proofs.Formed.{items-range, bidders-range, prices-use, past-items-use, past-bidders-use, bits-use}
+use Rattle.live.proofs.Formed.{items-range, bidders-placed, prices-use, past-items-use, past-bidders-use, bits-use}
 
 -- what an array is: so many places, of so many bits each
 pub record Sets (l : List ℕ) : Type 0 where
@@ -64,7 +64,7 @@ module _ (r : Auction) (t : Tidy r) where
   pub reported : Sets (r .sets) → Reported (r .items) (r .bidders) (r .sets)
   unfolding has
   reported s =
-      let most = bidders-range r (t .counts) .1 in
+      let most = bidders-placed r (t .counts) in
       record {
         max-items = items-range r (t .counts) .1;
         max-bidders = most;

@@ -10,7 +10,7 @@ use Rattle.sets.specs.Bit.{has}
 use Rattle.rule.specs.Sheet.{amount, priceSum}
 use Rattle.rule.specs.Demand.{Demand}
 use Rattle.rule.specs.Excess.{excessDemand, excessSupply, aboveFloors}
-use Rattle.rule.specs.Refusal.{badItems, badBidders, anyOver, anyUnder}
+use Rattle.rule.specs.Refusal.{badItems, badLiveBidders, anyOver, anyUnder}
 use Rattle.round.specs.Reports.{reports}
 use Rattle.reports.specs.Report.{isEmpty, beyond, unfit}
 use Rattle.live.specs.declared.Auction.{Auction}
@@ -51,7 +51,7 @@ fallingSet r = excessSupply (r .items) (itemsAbove r) (reportsOf r)
 
 -- not: a count is outside 1 or 2
 unfoldable pub countsFit : Auction → Bool
-countsFit r = not (badItems (r .items)) && not (badBidders (r .bidders))
+countsFit r = not (badItems (r .items)) && not (badLiveBidders (r .bidders))
 
 -- not: a price exceeds 4,095
 unfoldable pub pricesFit : Auction → Bool

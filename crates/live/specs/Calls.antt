@@ -12,7 +12,7 @@ use Rattle.rule.specs.Sheet.{amount}
 use Rattle.rule.specs.Demand.{Demand}
 use Rattle.rule.specs.Round.{rising, falling, Round, raised, lowered, closed, round, raise, lower}
 use Rattle.rule.specs.Round.{Phase as RulePhase}
-use Rattle.rule.specs.Refusal.{on, first, badItems, badBidders, badLength, anyOver, badFloors, badBidder}
+use Rattle.rule.specs.Refusal.{on, first, badItems, badLiveBidders, badLength, anyOver, badFloors, badBidder}
 use Rattle.reports.specs.Report.{unfit}
 use Rattle.live.specs.Auction.{reportsOf, hasReported, missing, itemsAbove, risingSet, wellFormed}
 use Rattle.live.specs.Tables.{badTables, tablesFit, openTables, unexplainedAt, anyUnexplained, narrowedTables}
@@ -45,13 +45,13 @@ isRising Closed = false
 
 unfoldable pub openNumber : (items bidders : ℕ) (start : List ℕ) (ts : List ℤ) → ℕ
 openNumber m n start ts =
-    first (on 1 (badItems m) ∷ on 2 (badBidders n) ∷ on 3 (badLength start m) ∷ on 3 (badTables n ts) ∷ on 4 (anyOver start) ∷ [])
+    first (on 1 (badItems m) ∷ on 2 (badLiveBidders n) ∷ on 3 (badLength start m) ∷ on 3 (badTables n ts) ∷ on 4 (anyOver start) ∷ [])
 
 unfoldable pub openAboveNumber : (items bidders : ℕ) (start floors : List ℕ) (ts : List ℤ) → ℕ
 openAboveNumber m n start floors ts =
     first
     (on 1 (badItems m)
-    ∷ on 2 (badBidders n)
+    ∷ on 2 (badLiveBidders n)
     ∷ on 3 (badLength start m)
     ∷ on 3 (badLength floors m)
     ∷ on 3 (badTables n ts)

@@ -19,6 +19,9 @@ ghost use Rattle.live.specs.declared.Ended.the-variants.{Closed as Close
 ghost use Rattle.live.specs.Reading.{tooFew, namesOf, sheetOf, readNumber, readBytes};
 ghost use Rattle.live.specs.Tidy.{Tidy, Ready, Calm, fitNumber, readyNumber, roundAnswer, roundNext, isMove};
 
+// the most bidders of a live auction, as the rule has them (document 02, #108)
+pub const MOST_BIDDERS: usize = 40;
+
 // document 01: rising, falling, closed
 pub enum Phase {
     Rising,
@@ -122,7 +125,7 @@ fn open_number(items: usize, bidders: usize, start: &[u16], floors: &[u16], tabl
     if sets::outside(32, items) {
         return 1;
     }
-    if sets::outside(64, bidders) {
+    if sets::outside(MOST_BIDDERS, bidders) {
         return 2;
     }
     if start.len() != items {

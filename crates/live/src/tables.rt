@@ -4,6 +4,7 @@ ghost use mathlib.Core.Path.{_≡_};
 ghost use mathlib.Core.Bool.{true, false, not};
 ghost use Prim.Native.Nat.{_*_, _≤_, _<_};
 ghost use lib.ListN.{length};
+ghost use Rattle.rule.specs.Refusal.{mostLiveBidders};
 ghost use Rattle.reports.specs.Report.{saying, unfit};
 ghost use Rattle.live.specs.Auction.{wellFormed};
 ghost use Rattle.live.specs.Tables.{badTables, tablesFit, openTables, unexplainedAt, anyUnexplained, narrowedTables};
@@ -11,7 +12,7 @@ ghost use Rattle.live.specs.Tidy.{Fit, Ready};
 
 // every bidder's table is the opening's
 pub(crate) fn fill_all(tables: &mut [i16], bidders: usize, items: usize)
-    requires { ⌜ (length (now tables) ≡ bidders * 1089) × (bidders ≤ 64) × (items ≤ 32) ⌝ }
+    requires { ⌜ (length (now tables) ≡ bidders * 1089) × (bidders ≤ mostLiveBidders) × (items ≤ 32) ⌝ }
     ensures { λ r. ⌜ now (tables .exit) ≡ openTables items bidders ⌝ }
 {
     let mut k: usize = 0;

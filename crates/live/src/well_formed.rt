@@ -1,6 +1,7 @@
 // Number 11 (document 01: turned down by the state), clause by clause: what a well formed record keeps. The order is that of the sentence; the clauses on
 // reports are tested place by place in one loop, which `reports` has.
 use crate::Auction;
+use crate::MOST_BIDDERS;
 use crate::Phase;
 ghost use mathlib.Core.Path.{_≡_};
 ghost use mathlib.Core.Bool.{true, _&&_};
@@ -32,7 +33,7 @@ impl Auction {
         if sets::outside(32, self.items) {
             return false;
         }
-        !sets::outside(64, self.bidders)
+        !sets::outside(MOST_BIDDERS, self.bidders)
     }
 
     // not: a price exceeds 4,095

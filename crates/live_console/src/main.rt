@@ -125,9 +125,8 @@ fn run(line: &mut [u8], tables: &mut [i16]) {
     }
 }
 
-// The tables have room for 64 bidders', 1,089 numbers each.
 fn main() {
     let mut line = io::buffer();
-    let mut tables = [0i16; 69696];
+    let mut tables = [0i16; console::HELD_NUMBERS];
     run(&mut line, &mut tables);
 }

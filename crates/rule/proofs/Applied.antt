@@ -21,12 +21,12 @@ use Rattle.rule.specs.FallingFirst.{roundRising, fallingRound, fallingRo
 use Rattle.rule.specs.Gains.{gain, gainsAt}
 use Rattle.rule.specs.Reduced.{reducedLine}
 use Rattle.rule.specs.Reasons.{biddersWith, reasonOf, reasonAt, Justified}
-use Rattle.rule.specs.Refusal.{anyOver, anyUnder, badFloors}
+use Rattle.rule.specs.Refusal.{badBidders, badLiveBidders, anyOver, anyUnder, badFloors}
 use Rattle.rule.specs.Former.{formerDemand, formerDemands, formerRoundAt, formerAfter, formerPath, FormerEquilibrium}
 
 -- the definitions that the cases compute with
 computing : Unit {0}
-unfolding allBelow anyBelow count bit isSet has setOf each any size largestBelow largest tabulate amount row each4095 withinLimits surplusAtLeast best demand demands wants nth bidders overdemanded weaklyUnderdemanded crowded inExcess inPositiveExcess excessDemand positiveExcessDemand excessSupply aboveFloors raise lower roundFalling round move roundAt after opening path mostRounds option holders isAssignment fits greatest biddersWith reasonOf reasonAt formerDemand formerDemands formerRoundAt formerAfter formerPath sum floorTotal anyOver anyUnder badFloors roundRising fallingRound fallingRoundAt fallingPath surplus surpluses gain gainsAt someList choose assignment lowest reducedLine
+unfolding allBelow anyBelow count bit isSet has setOf each any size largestBelow largest tabulate amount row each4095 withinLimits surplusAtLeast best demand demands wants nth bidders overdemanded weaklyUnderdemanded crowded inExcess inPositiveExcess excessDemand positiveExcessDemand excessSupply aboveFloors raise lower roundFalling round move roundAt after opening path mostRounds option holders isAssignment fits greatest biddersWith reasonOf reasonAt formerDemand formerDemands formerRoundAt formerAfter formerPath sum floorTotal badBidders badLiveBidders anyOver anyUnder badFloors roundRising fallingRound fallingRoundAt fallingPath surplus surpluses gain gainsAt someList choose assignment lowest reducedLine
 computing = tt
 
 -- a demand of these items alone, and one of null beside them
@@ -244,6 +244,13 @@ two-for-one = record { raised-more = λ e. omega arith; lowered-no-more = λ e. 
 pub two-for-two : Justified 2 2 (record { kind = 2; items = 3; bidders = 3 })
 unfolding computing
 two-for-two = record { raised-more = λ e. absurd (omega (arith, e)); lowered-no-more = λ e. omega arith }
+
+-- ---- 2
+
+-- 64 bidders are not too many, and 65 are; of a live auction 40 are not, and 41 are
+pub too-many : (badBidders 64 ≡ false) × (badBidders 65 ≡ true) × (badLiveBidders 40 ≡ false) × (badLiveBidders 41 ≡ true)
+unfolding computing
+too-many = (refl, refl, refl, refl)
 
 -- ---- 18
 

@@ -25,6 +25,14 @@ badItems m = outside 32 m
 unfoldable pub badBidders : ℕ → Bool
 badBidders n = outside 64 n
 
+-- the most bidders of a live auction: document 02, #108
+abbrev pub mostLiveBidders : ℕ
+mostLiveBidders = 40
+
+-- 2 of an opening, and under 11 of a record: bidders outside 1 to those
+unfoldable pub badLiveBidders : ℕ → Bool
+badLiveBidders n = outside mostLiveBidders n
+
 -- 3: a lent length that is not exact for the counts
 unfoldable pub badLength : List ℕ → ℕ → Bool
 badLength xs n = not (eqb (length xs) n)

@@ -31,7 +31,7 @@ fn damaged(record: &Record, r: &mut Random) -> Record {
     let mut bad = record.clone();
     match r.within(0, 9) {
         0 => bad.items = *r.pick(&[0, 33, u32::MAX]),
-        1 => bad.bidders = *r.pick(&[0, 65, u32::MAX]),
+        1 => bad.bidders = *r.pick(&[0, 41, 64, 65, u32::MAX]),
         2 => bad.prices[r.within(0, 31)] = too_high(r),
         3 => bad.floors[r.within(0, 31)] = r.amount(TOP),
         4 => bad.reported ^= 1 << r.within(0, 63),
@@ -47,13 +47,14 @@ fn damaged(record: &Record, r: &mut Random) -> Record {
 /// Opens on both, with tables of any length that hold anything, until it is not refused.
 fn open(s: &Sheet, floors: bool, r: &mut Random, same: &mut impl FnMut(bool, &dyn Fn() -> String)) -> Held {
     loop {
-        let exact = s.bidders * TABLE;
+        let items = if r.one_in(12) { 33 } else { s.items as u32 };
+        let bidders = if r.one_in(12) { *r.pick(&[41, 64, 65]) } else { s.bidders as u32 };
+        let exact = bidders as usize * TABLE;
         let length = if r.one_in(2) { exact } else { *r.pick(&[0, exact - 1, exact + 1, exact - TABLE, exact + TABLE]) };
         let mut start = s.start.clone();
         if r.one_in(6) {
             start[r.within(0, s.items - 1)] = too_high(r);
         }
-        let (items, bidders) = (if r.one_in(12) { 33 } else { s.items as u32 }, if r.one_in(12) { 65 } else { s.bidders as u32 });
         let lent: Vec<i16> = (0..length).map(|_| r.draw() as i16).collect();
         let (mut second, mut proved) = (lent.clone(), lent);
         let expected = match floors {

@@ -8,6 +8,7 @@ use model::generate::{calls, live_sheet, live_sheet_above, Reporting};
 use model::live::{Answer, Call};
 use model::machine::Machine;
 use model::random::Random;
+use model::sheet::LONGEST_LIVE;
 use model::Sheet;
 
 /// The lists of one run of the program.
@@ -27,13 +28,13 @@ fn damaged(good: &str, floors: bool, r: &mut Random) -> Vec<u8> {
             let at = r.within(0, bytes.len() - 1);
             bytes[at] = *r.pick(b"GA\x80 \0");
         }
-        5 => bytes = format!("o{:02x}{:02x}", r.pick(&[0, 1, 33, 255]), r.pick(&[0, 1, 65, 255])).into_bytes(),
+        5 => bytes = format!("o{:02x}{:02x}", r.pick(&[0, 1, 33, 255]), r.pick(&[0, 1, 41, 255])).into_bytes(),
         6 => bytes = format!("o01{:02x}{:04x}", r.within(1, 3), r.pick(&[0u16, 4_095, 4_096, 65_535])).into_bytes(),
         7 => bytes = format!("r{:02x}{:02x}{:08x}", r.within(0, 70), r.within(0, 3), r.draw() as u32).into_bytes(),
         8 => bytes = (0..r.within(1, 20)).map(|_| *r.pick(b"orecs0123456789abcdef")).collect(),
         9 => {
             let amounts = "0001".repeat(r.within(0, 5));
-            bytes = format!("f{:02x}{:02x}{amounts}", r.pick(&[0, 1, 2, 33]), r.pick(&[0, 1, 65])).into_bytes();
+            bytes = format!("f{:02x}{:02x}{amounts}", r.pick(&[0, 1, 2, 33]), r.pick(&[0, 1, 41])).into_bytes();
         }
         _ => {
             let (start, floor) = (*r.pick(&[0u16, 7, 4_095, 4_096]), *r.pick(&[0u16, 7, 8, 4_096, 65_535]));
@@ -111,7 +112,7 @@ fn list(k: usize, floors: bool, r: &mut Random) -> List {
     let s = if floors { live_sheet_above(r) } else { live_sheet(r) };
     let reporting = if k % 2 == 0 { Reporting::BySheet } else { Reporting::Wild };
     // The console lends enough room for every close.
-    let room = |call: Call| if matches!(call, Call::Read { .. }) { Call::Read { room: 271 } } else { call };
+    let room = |call: Call| if matches!(call, Call::Read { .. }) { Call::Read { room: LONGEST_LIVE } } else { call };
     let calls: Vec<Call> = calls(&s, reporting, 250, r).into_iter().map(room).collect();
     let damage = k % 3 == 0;
     let mut list = List::new(lines(&s, floors, &calls, damage, r));
@@ -127,14 +128,15 @@ fn list(k: usize, floors: bool, r: &mut Random) -> List {
 }
 
 /// Lines before any opening, when the record is the one of zeros and every call on it gives 11; openings with too many starting
-/// prices and floors; lines as long as the program takes, and longer.
+/// prices and floors, and with too many bidders, among them as many as a sealed auction takes; lines as long as the program takes, and longer.
 fn edges() -> List {
-    let opening = |letter: char, count: usize| format!("{letter}2040{}", "0000".repeat(count));
-    let texts = ["e", "c", "s", "r010100000000", "x", "", "f", "f2040"].map(String::from);
-    let long = [32, 31, 33, 34, 1_000, (LONGEST - 5) / 4, 2_000].map(|count| opening('o', count));
-    let floors = [64, 63, 65, 32, 33, 1_000, (LONGEST - 5) / 4, 2_000].map(|count| opening('f', count));
+    let opening = |letter: char, bidders: u32, count: usize| format!("{letter}20{bidders:02x}{}", "0000".repeat(count));
+    let texts = ["e", "c", "s", "r010100000000", "x", "", "f", "f2028"].map(String::from);
+    let long = [32, 31, 33, 34, 1_000, (LONGEST - 5) / 4, 2_000].map(|count| opening('o', 40, count));
+    let floors = [64, 63, 65, 32, 33, 1_000, (LONGEST - 5) / 4, 2_000].map(|count| opening('f', 40, count));
+    let crowds = [39, 40, 41, 63, 64, 65].map(|bidders| [opening('o', bidders, 32), opening('f', bidders, 64)]).concat();
     let letters = [LONGEST, LONGEST + 1, 10_000].map(|n| "e".repeat(n));
-    let all = [&texts[..], &long[..], &floors[..], &letters[..], &texts[..]].concat();
+    let all = [&texts[..], &long[..], &floors[..], &crowds[..], &letters[..], &texts[..]].concat();
     List::new(all.into_iter().map(String::into_bytes).collect())
 }
 

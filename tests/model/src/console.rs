@@ -5,7 +5,7 @@
 //! than the program takes. A line that is answered with a number other than 00 changes nothing, an opening included.
 
 use crate::live::{Answer, Call, Held, Report};
-use crate::sheet::{digits, number, numbers};
+use crate::sheet::{digits, number, numbers, LONGEST_LIVE};
 use crate::Kind;
 
 /// The longest line that the program looks at.
@@ -29,7 +29,7 @@ impl Console {
             [letter @ (b'o' | b'f'), rest @ ..] => self.opened(*letter == b'f', rest),
             b"e" => self.called(Call::End),
             b"c" => self.called(Call::Clear),
-            b"s" => self.called(Call::Read { room: 271 }),
+            b"s" => self.called(Call::Read { room: LONGEST_LIVE }),
             [b'r', rest @ ..] => match report(rest) {
                 Some(call) => self.called(call),
                 None => "06\n".into(),

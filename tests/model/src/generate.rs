@@ -3,7 +3,8 @@
 use crate::flows;
 use crate::live::{Answer, Call, Held, Phase, Record, Report};
 use crate::random::Random;
-use crate::{sheet, Sheet, BIDDERS, ITEMS, TOP};
+use crate::sheet::LONGEST_LIVE;
+use crate::{sheet, Sheet, BIDDERS, ITEMS, LIVE_BIDDERS, TOP};
 
 /// The kinds of sheets.
 #[derive(Clone, Copy, Debug, PartialEq, Eq)]
@@ -310,14 +311,14 @@ impl Caller<'_> {
         let missing: Vec<u32> = (1..=bidders).filter(|&k| !record.has_reported(k)).collect();
         if record.phase == Phase::Closed && r.one_in(4) {
             let needed = sheet::live_length(items as usize, bidders as usize);
-            return Some(Call::Read { room: *r.pick(&[0, needed - 1, needed, 271, 300]) });
+            return Some(Call::Read { room: *r.pick(&[0, needed - 1, needed, LONGEST_LIVE, 300]) });
         }
         if record.phase == Phase::Closed && r.one_in(6) {
             return None;
         }
         Some(if r.one_in(self.disturbed) {
             match r.within(0, 5) {
-                0 => Call::Read { room: 271 },
+                0 => Call::Read { room: LONGEST_LIVE },
                 1 => Call::Clear,
                 2 if self.reporting == Reporting::Wild || !self.wrong || r.one_in(4) => Call::End,
                 _ => Call::Report { bidder: any_bidder(bidders, r), report: any_report(items, r) },
@@ -368,7 +369,7 @@ pub fn calls(sheet: &Sheet, reporting: Reporting, most: usize, r: &mut Random) -
     calls
 }
 
-/// A sheet for a live list, without floors: few rounds, some of them at the top and at the bottom of the prices.
+/// A sheet for a live list, without floors: few rounds, some of them at the top and at the bottom of the prices; now and then the most items and bidders.
 pub fn live_sheet(r: &mut Random) -> Sheet {
     let shape = *r.pick(&[Shape::Small, Shape::Small, Shape::Small, Shape::Ring, Shape::Middle, Shape::Ties]);
     let mut sheet = self::sheet(shape, r);
@@ -376,7 +377,7 @@ pub fn live_sheet(r: &mut Random) -> Sheet {
         sheet = self::sheet(Shape::Small, r);
     }
     if r.one_in(20) {
-        sheet = Sheet::of(vec![0; ITEMS], BIDDERS, filled(ITEMS * BIDDERS, || r.amount(2)));
+        sheet = Sheet::of(vec![0; ITEMS], LIVE_BIDDERS, filled(ITEMS * LIVE_BIDDERS, || r.amount(2)));
     } else if r.one_in(5) {
         let up = TOP - sheet.start.iter().chain(&sheet.bids).max().unwrap_or(&0);
         sheet.start.iter_mut().chain(&mut sheet.bids).for_each(|x| *x += up);

@@ -4,7 +4,7 @@ use crate::flows::{self, Demand};
 use crate::live::Held;
 use crate::random::Random;
 use crate::tables::{narrowed, opening, OPTIONS, TABLE};
-use crate::{ITEMS, TOP};
+use crate::{ITEMS, LIVE_BIDDERS, TOP};
 
 /// Bids, and prices near them, so that most options are close to being demanded.
 fn bids(items: usize, r: &mut Random) -> Vec<u16> {
@@ -167,7 +167,7 @@ pub fn lent(held: &Held, lending: Lending, r: &mut Random) -> Vec<i16> {
         Lending::Spoilt => spoilt(part, items, r),
         Lending::Length => {
             let exact = tables.len();
-            tables.resize(*r.pick(&[0, 1, exact - 1, exact + 1, exact - TABLE, exact + TABLE, 64 * TABLE + 1]), 0);
+            tables.resize(*r.pick(&[0, 1, exact - 1, exact + 1, exact - TABLE, exact + TABLE, LIVE_BIDDERS * TABLE + 1]), 0);
         }
     }
     tables

@@ -33,8 +33,10 @@ pub mod totals;
 pub const TOP: u16 = 4095;
 /// The most items.
 pub const ITEMS: usize = 32;
-/// The most bidders.
+/// The most bidders of a sealed auction, and the places for bidders in a live record.
 pub const BIDDERS: usize = 64;
+/// The most bidders of a live auction.
+pub const LIVE_BIDDERS: usize = 40;
 
 /// What a bid sheet says: counts, starting prices, and bids, bidder after bidder; and the floors that it is let with, which are 0
 /// where nothing is said of them, and in every bid sheet as bytes.

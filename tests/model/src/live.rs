@@ -3,7 +3,7 @@
 use crate::flows::{self, Demand};
 use crate::sheet::{live_length, write_live};
 use crate::tables::{self, TABLE};
-use crate::{below_floor, Kind, BIDDERS, ITEMS, TOP};
+use crate::{below_floor, Kind, BIDDERS, ITEMS, LIVE_BIDDERS, TOP};
 
 /// A report: null yes or no, beside an item set. It is empty if it says no and the set is empty.
 pub type Report = Demand;
@@ -85,7 +85,7 @@ impl Record {
         if items < 1 || items > ITEMS as u32 {
             return Err(1);
         }
-        if bidders < 1 || bidders > BIDDERS as u32 {
+        if bidders < 1 || bidders > LIVE_BIDDERS as u32 {
             return Err(2);
         }
         if start.len() != items as usize || floors.len() != items as usize || tables.len() != bidders as usize * TABLE {
@@ -137,7 +137,7 @@ impl Record {
     /// Number 11, clause by clause; sums never wrap.
     pub fn well_formed(&self) -> bool {
         let (items, bidders) = (self.items as usize, self.bidders as usize);
-        if !(1..=ITEMS).contains(&items) || !(1..=BIDDERS).contains(&bidders) {
+        if !(1..=ITEMS).contains(&items) || !(1..=LIVE_BIDDERS).contains(&bidders) {
             return false;
         }
         if self.prices.iter().any(|&p| p > TOP) || self.floors.iter().any(|&f| f > TOP) {
@@ -148,7 +148,7 @@ impl Record {
         }
         let places = self.prices[items..].iter().chain(&self.floors[items..]).any(|&p| p != 0);
         let past = self.reports[bidders..].iter().any(|&r| r != Report::default());
-        let bits = bidders < BIDDERS && self.reported >> bidders != 0;
+        let bits = self.reported >> bidders != 0;
         if places || past || bits {
             return false;
         }

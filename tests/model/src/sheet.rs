@@ -1,7 +1,7 @@
 //! Bid sheets and closing sheets as bytes. A sheet is read here by taking it apart into lines first, unlike the proved reader,
 //! which goes from byte to byte.
 
-use crate::{flows, sealed_refusal, Closing, Sheet, BIDDERS, ITEMS};
+use crate::{flows, sealed_refusal, Closing, Sheet, BIDDERS, ITEMS, LIVE_BIDDERS};
 
 /// The value of lower-case hexadecimal digits, if they are just these.
 pub fn number(digits: &[u8]) -> Option<u32> {
@@ -27,6 +27,9 @@ pub const fn closing_length(items: usize, bidders: usize) -> usize {
 pub const fn live_length(items: usize, bidders: usize) -> usize {
     15 + 4 * items + 2 * bidders
 }
+
+/// The most that it can be.
+pub const LONGEST_LIVE: usize = live_length(ITEMS, LIVE_BIDDERS);
 
 /// What a bid sheet says, with any amounts of four digits: 6 for the first four bytes, then 1, 2, then 6 for the rest.
 pub fn read(bytes: &[u8]) -> Result<Sheet, u8> {

@@ -4,8 +4,9 @@ use model::generate::{calls, live_sheet, live_sheet_above, Reporting};
 use model::live::{Answer, Call, Held, Phase, Record, Report};
 use model::machine::Machine;
 use model::random::Random;
+use model::sheet::LONGEST_LIVE;
 use model::tables::{narrowed, OPTIONS, TABLE};
-use model::{flows, sheet, Sheet, TOP};
+use model::{flows, sealed_refusal, sheet, Sheet, TOP};
 
 /// Whether record and tables hold the sheet's floors and the machine's prices, rounds, phase, reports and tables.
 fn holds(held: &Held, machine: &Machine, s: &Sheet) -> bool {
@@ -62,7 +63,7 @@ fn agree_on(made: &fn(&mut Random) -> Sheet) {
         let list = calls(&s, Reporting::BySheet, 600, &mut r);
         if agree(&s, &list) {
             stayed += 1;
-            closed += usize::from(list.iter().any(|c| matches!(c, Call::Read { room: 271 })));
+            closed += usize::from(list.iter().any(|c| matches!(c, Call::Read { room: LONGEST_LIVE })));
         }
     }
     assert!(stayed > 200 && closed > 100, "{stayed} lists stayed on the sheet, {closed} of them read");
@@ -125,10 +126,23 @@ fn a_close_is_that_of_some_sheet() {
         let found = Sheet { bids, ..s.clone() };
         assert_eq!(flows::demands(&found, held.record.prices()), held.record.reports(), "{s:?}");
         let c = flows::close(&found);
-        let Answer::Sheet(bytes) = held.call(Call::Read { room: 271 }) else { panic!("it has closed") };
+        let Answer::Sheet(bytes) = held.call(Call::Read { room: LONGEST_LIVE }) else { panic!("it has closed") };
         assert_eq!(bytes, sheet::write_live(c.raised, c.lowered, &c.prices, &c.names), "{s:?}");
     }
     assert!(closed > 100, "{closed} lists closed");
+}
+
+/// A sheet of more than forty bidders is let sealed, up to sixty-four of them, and never live.
+#[test]
+fn more_bidders_than_a_live_auction_has() {
+    for (bidders, number) in [(40, None), (41, Some(2)), (64, Some(2))] {
+        let s = Sheet::of(vec![1; 2], bidders, vec![3; 2 * bidders]);
+        assert_eq!(sealed_refusal(2, bidders as u32, &s.start, &s.bids), None);
+        assert_eq!(flows::close(&s).prices, [3, 3]);
+        assert_eq!(Held::open_above(2, bidders as u32, &s.start, &s.floors).err(), number, "{bidders}");
+        assert_eq!(Held::open(2, bidders as u32, &s.start).err(), number, "{bidders}");
+    }
+    assert_eq!(sealed_refusal(2, 65, &[1; 2], &[3; 2 * 65]), Some(2));
 }
 
 /// Each clause of number 11, on records that no list of calls reaches.
@@ -157,7 +171,16 @@ fn records_that_are_not_well_formed() {
     spoil(&good, &|r| r.items = 0);
     spoil(&good, &|r| r.items = 33);
     spoil(&good, &|r| r.bidders = 0);
-    spoil(&good, &|r| r.bidders = 65);
+    spoil(&good, &|r| r.bidders = 41);
+    spoil(&good, &|r| r.bidders = 64);
+    // Places past the most bidders are unused ones.
+    let forty = Held::open(1, 40, &[5]).unwrap().record;
+    assert!(forty.well_formed());
+    spoil(&forty, &|r| r.bidders = 41);
+    spoil(&forty, &|r| r.reports[40].items = 1);
+    spoil(&forty, &|r| r.reports[63].null = true);
+    spoil(&forty, &|r| r.reported = 1 << 40);
+    spoil(&forty, &|r| r.reported = 1 << 63);
     spoil(&good, &|r| r.prices[0] = 4096);
     spoil(&good, &|r| r.prices[2] = 1);
     spoil(&good, &|r| r.reports[3].items = 1);

@@ -112,20 +112,20 @@ fn seventeen() {
 fn a_refused_opening() {
     let open = |items, bidders, start: &[u16]| Held::open(items, bidders, start).map(|_| ());
     let above = |items, bidders, start: &[u16], floors: &[u16]| Held::open_above(items, bidders, start, floors).map(|_| ());
-    assert_eq!(open(33, 65, &[]), Err(1));
-    assert_eq!(open(32, 65, &[]), Err(2));
-    assert_eq!(open(32, 64, &[0; 31]), Err(3));
+    assert_eq!(open(33, 41, &[]), Err(1));
+    assert_eq!(open(32, 41, &[]), Err(2));
+    assert_eq!(open(32, 40, &[0; 31]), Err(3));
     assert_eq!(open(1, 1, &[4096]), Err(4));
-    assert_eq!(open(32, 64, &[4095; 32]), Ok(()));
-    assert_eq!(above(33, 65, &[], &[]), Err(1));
-    assert_eq!(above(32, 65, &[], &[]), Err(2));
+    assert_eq!(open(32, 40, &[4095; 32]), Ok(()));
+    assert_eq!(above(33, 41, &[], &[]), Err(1));
+    assert_eq!(above(32, 41, &[], &[]), Err(2));
     assert_eq!(above(2, 1, &[4, 4], &[4]), Err(3));
     assert_eq!(above(2, 1, &[4, 4], &[4, 4, 0]), Err(3));
     assert_eq!(above(2, 1, &[4], &[4, 4]), Err(3));
     assert_eq!(above(2, 1, &[4096, 4], &[4097, 5]), Err(4));
     assert_eq!(above(2, 1, &[4, 4], &[4, 5]), Err(18));
     assert_eq!(above(1, 1, &[4095], &[4096]), Err(18));
-    assert_eq!(above(32, 64, &[4095; 32], &[4095; 32]), Ok(()));
+    assert_eq!(above(32, 40, &[4095; 32], &[4095; 32]), Ok(()));
     assert_eq!(Record::zeros().call(Call::Clear, &mut []), Answer::Refused(11));
 }
 
@@ -133,7 +133,7 @@ fn a_refused_opening() {
 #[test]
 fn an_opening_with_tables() {
     let all = tables::opening(2, 4095);
-    for length in [0, 1, TABLE, 3 * TABLE - 1, 3 * TABLE, 3 * TABLE + 1, 4 * TABLE, 64 * TABLE] {
+    for length in [0, 1, TABLE, 3 * TABLE - 1, 3 * TABLE, 3 * TABLE + 1, 4 * TABLE, 40 * TABLE] {
         let mut tables = vec![-9999; length];
         for (start, number) in [([4096, 0], 4), ([0, 4], 18), ([4, 4], 0)] {
             let opened = Record::open_above(2, 3, &start, &[4, 4], &mut tables);
@@ -143,8 +143,8 @@ fn an_opening_with_tables() {
             assert_eq!(tables, if filled { all.repeat(3) } else { vec![-9999; length] }, "{length} numbers from {start:?}");
         }
     }
-    assert_eq!(Record::open(0, 65, &[], &mut []), Err(1));
-    assert_eq!(Record::open(1, 65, &[], &mut []), Err(2));
+    assert_eq!(Record::open(0, 41, &[], &mut []), Err(1));
+    assert_eq!(Record::open(1, 41, &[], &mut []), Err(2));
 }
 
 /// `examples/` has the table as files, each sheet with what comes out beside it.

@@ -84,6 +84,6 @@ fn room_of_every_length() {
 /// The longest sheets.
 #[test]
 fn the_longest() {
-    assert_eq!([sheet::closing_length(32, 64), sheet::live_length(32, 64)], [528, 271]);
+    assert_eq!([sheet::closing_length(32, 64), sheet::LONGEST_LIVE], [528, 223]);
     assert_eq!([sheet::closing_length(2, 3), sheet::live_length(2, 3)], [42, 29]);
 }

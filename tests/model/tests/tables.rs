@@ -179,18 +179,18 @@ fn the_order() {
 /// An end tests every bidder's report against the table lent with it, and changes none where one is not explained.
 #[test]
 fn the_last_bidder_of_an_end() {
-    let mut held = Held::open(1, 64, &[5]).unwrap();
-    for bidder in 1..=64 {
+    let mut held = Held::open(1, 40, &[5]).unwrap();
+    for bidder in 1..=40 {
         assert_eq!(held.call(Call::Report { bidder, report: Report { null: false, items: 1 } }), Answer::Done);
     }
-    // Bidder 64 bids at most 5.
-    held.tables[63 * TABLE + OPTIONS] = 5;
+    // Bidder 40 bids at most 5.
+    held.tables[39 * TABLE + OPTIONS] = 5;
     let before = held.clone();
     assert_eq!(held.call(Call::End), Answer::Refused(19));
     assert_eq!(held, before);
-    held.tables[63 * TABLE + OPTIONS] = 6;
+    held.tables[39 * TABLE + OPTIONS] = 6;
     assert!(matches!(held.call(Call::End), Answer::Moved(..)));
     assert_eq!(held.record.phase, Phase::Rising);
     let rows = |k: usize| [&held.tables[k * TABLE..][..2], &held.tables[k * TABLE + OPTIONS..][..2]].concat();
-    assert_eq!((rows(0), rows(63)), (vec![0, -6, 4095, 0], vec![0, -6, 6, 0]));
+    assert_eq!((rows(0), rows(39)), (vec![0, -6, 4095, 0], vec![0, -6, 6, 0]));
 }

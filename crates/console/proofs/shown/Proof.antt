@@ -6,11 +6,12 @@ use native.Mathlib.Omega.{arith}
 use lib.ListN.{length}
 use borrow.Author.Needs.{needs}
 use borrow.Rule.Slice.PartMut.{putMid}
+use Rattle.rule.specs.Refusal.{mostLiveBidders}
 use Rattle.console.proofs.Showing.{shown-number, shown-sheet, shown-small}
 use Rattle.console.proofs.shown.Statement.{statement}
 use Rattle.console.proofs.shown.Tie as tie
 
-small : (c : tie.Else1) → (c .before .before .before .before .before .before .before .before .before .before .args .held .items ≤ 32) × (c .before .before .before .before .before .before .before .before .before .before .args .held .bidders ≤ 64)
+small : (c : tie.Else1) → (c .before .before .before .before .before .before .before .before .before .before .args .held .items ≤ 32) × (c .before .before .before .before .before .before .before .before .before .before .args .held .bidders ≤ mostLiveBidders)
 small c = shown-small (c .before .before .before .before .before .before .before .before .before .before .args .held) (c .before .before .before .before .before .before .before .before .before .before .args .out .now) (c .before .before .before .write-refusal .last .0) (c .before .before .before .before .before .before .before .read .result) (c .before .before .before .before .before .before .before .before .before .before .pre) (c .before .before .before .before .before .before .before .read .ensures .0) (c .if1 .left)
 
 sub-read : tie.Need-sub-read

@@ -25,7 +25,7 @@ fill-all-requires : tie.Need-fill-all-requires
 fill-all-requires c κs =
     let a = c .before .before .before .before .before .before .args in
     let q = opens (a .items) (a .bidders) (a .start .now) (a .floors .now) (a .tables .now) (sym (c .before .before .open-number .ensures) ∙ c .before .if1 .left) in
-    (q .2, q .1, q .0)
+    (q .lent-long, q .max-bidders, q .max-items)
 
 opened-requires : tie.Need-opened-requires
 opened-requires c κs = search needs

@@ -4,7 +4,7 @@ use mathlib.Core.Bool.{false}
 use Prim.Native.Nat.{_≤_}
 use native.Mathlib.Omega.{arith}
 use borrow.Author.Needs.{needs}
-use Rattle.rule.specs.Refusal.{badItems, badBidders, anyOver}
+use Rattle.rule.specs.Refusal.{badItems, mostLiveBidders, badLiveBidders, anyOver}
 use Rattle.rule.proofs.Refusal.{in-range}
 use Rattle.live.proofs.Opening.{one, two, three, three-floors, three-tables, four, eighteen, no-number}
 use Rattle.live.proofs.open_number.Statement.{statement}
@@ -16,12 +16,12 @@ items-fit : (c : tie.Else1) → badItems (c .before .before .before .before .arg
 unfolding badItems
 items-fit c = sym (c .before .outside .ensures) ∙ c .if1 .left
 
-bidders-fit : (c : tie.Else2) → badBidders (c .before .before .before .before .before .before .args .bidders) ≡ false
-unfolding badBidders
+bidders-fit : (c : tie.Else2) → badLiveBidders (c .before .before .before .before .before .before .args .bidders) ≡ false
+unfolding badLiveBidders
 bidders-fit c = sym (c .before .outside2 .ensures) ∙ c .if2 .left
 
-few-bidders : (c : tie.Else2) → c .before .before .before .before .before .before .args .bidders ≤ 64
-few-bidders c = in-range 64 (c .before .before .before .before .before .before .args .bidders) (sym (c .before .outside2 .ensures) ∙ c .if2 .left) .1
+few-bidders : (c : tie.Else2) → c .before .before .before .before .before .before .args .bidders ≤ mostLiveBidders
+few-bidders c = in-range mostLiveBidders (c .before .before .before .before .before .before .args .bidders) (sym (c .before .outside2 .ensures) ∙ c .if2 .left) .1
 
 start-fits : (c : tie.Else6) → anyOver (c .before .before .before .before .before .before .before .before .before .before .before .args .start .now) ≡ false
 start-fits c = sym (c .before .any-over .ensures) ∙ c .if6 .left
@@ -39,7 +39,7 @@ outside-requires-2 : tie.Need-outside-requires-2
 outside-requires-2 c κs = search needs
 
 returns-2 : tie.Need-returns-2
-unfolding badBidders
+unfolding badLiveBidders
 returns-2 c =
     let a = c .before .before .before .before .before .before .args in
     sym (two (a .items) (a .bidders) (a .start .now) (a .floors .now) (a .tables .now) (items-fit (c .before .before)) (sym (c .before .outside2 .ensures) ∙ c .if2 .taken))

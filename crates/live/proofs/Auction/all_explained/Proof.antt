@@ -7,6 +7,7 @@ use borrow.Author.Count.{below-none, below-more}
 use borrow.Author.Needs.{needs}
 use borrow.Author.Tests.{not-true, not-false}
 use Rattle.sets.proofs.Tests.{any-make, any-false}
+use Rattle.rule.specs.Refusal.{mostLiveBidders}
 use Rattle.reports.specs.Report.{unfit}
 use Rattle.live.specs.Auction.{place}
 use Rattle.live.specs.Tables.{unexplainedAt, anyUnexplained}
@@ -16,7 +17,7 @@ use Rattle.live.proofs.Auction.all_explained.Statement.{statement}
 use Rattle.live.proofs.Auction.all_explained.Tie as tie
 
 abbrev Inv-loop : tie.InvT-loop
-Inv-loop tables self k₀ k = (k ≤ self .bidders) × (self .bidders ≤ 64) × ((j : ℕ) → j < k → unexplainedAt self tables j (place self j) ≡ false)
+Inv-loop tables self k₀ k = (k ≤ self .bidders) × (self .bidders ≤ mostLiveBidders) × ((j : ℕ) → j < k → unexplainedAt self tables j (place self j) ≡ false)
 
 abbrev μ-loop : tie.MeasureT-loop
 μ-loop tables self k₀ k = self .bidders - k

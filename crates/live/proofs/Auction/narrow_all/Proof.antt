@@ -7,6 +7,7 @@ use lib.ListN.{length, getD, take, drop}
 use lib.IntN.{ℤ}
 use borrow.Author.Needs.{needs}
 use borrow.Rule.Slice.PartMut.{same-len-mid}
+use Rattle.rule.specs.Refusal.{mostLiveBidders}
 use Rattle.reports.specs.Report.{saying}
 use Rattle.differences.specs.Allowed.{narrowed}
 use Rattle.differences.specs.Lent.{tableAt, flatAll}
@@ -20,7 +21,7 @@ use Rattle.live.proofs.Auction.narrow_all.Tie as tie
 
 abbrev Inv-loop : tie.InvT-loop
 Inv-loop tables₀ self prices k₀ tables k =
-    (k ≤ self .bidders) × (self .bidders ≤ 64) × (length tables ≡ self .bidders * 1089)
+    (k ≤ self .bidders) × (self .bidders ≤ mostLiveBidders) × (length tables ≡ self .bidders * 1089)
     × (take (k * 1089) tables ≡ flatAll k (λ k. narrowed (self .items) (tableAt tables₀ k) (self .prices) (place self k)))
     × (drop (k * 1089) tables ≡ drop (k * 1089) tables₀)
 

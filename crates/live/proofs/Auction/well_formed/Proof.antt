@@ -8,7 +8,7 @@ use Rattle.sets.proofs.Counting.{and-left, and-right}
 use Rattle.reports.specs.Places.{allFit}
 use Rattle.live.specs.Auction.{countsFit, pricesFit, unusedPrices, floorsFit, fromFloors, unusedFloors, unusedPlaces, unusedBits, reportedFit, othersEmpty, roundsFit, wellFormed}
 use Rattle.live.specs.declared.Auction.{Auction}
-use Rattle.live.proofs.Formed.{items-range, bidders-range}
+use Rattle.live.proofs.Formed.{items-range, bidders-placed}
 use Rattle.live.proofs.Places.{fits-clauses}
 use Rattle.live.proofs.Auction.well_formed.Statement.{statement}
 use Rattle.live.proofs.Auction.well_formed.Tie as tie
@@ -38,7 +38,7 @@ tested : (c : tie.After-all-fit) → c .all-fit .result ≡ reportClauses (c .be
 tested c =
     let r = c .before .before .before .before .before .before .before .before .before .before .before .args .self in
     let long : length (r .sets) ≡ 64 = search needs in
-    _∙_ {b = allFit (r .items) (r .bidders) (r .sets) (r .nulls) (r .reported)} (c .all-fit .ensures) (fits-clauses r long (bidders-range r (counts-pass (c .before .before .before .before .before .before .before .before .before)) .1))
+    _∙_ {b = allFit (r .items) (r .bidders) (r .sets) (r .nulls) (r .reported)} (c .all-fit .ensures) (fits-clauses r long (bidders-placed r (counts-pass (c .before .before .before .before .before .before .before .before .before))))
 
 reports-pass : (c : tie.Else5) → reportClauses (c .before .before .before .before .before .before .before .before .before .before .before .before .args .self) ≡ true
 reports-pass c = sym (tested (c .before)) ∙ not-false (c .before .all-fit .result) (c .if5 .left)

@@ -7,6 +7,7 @@ use lib.ListN.{length, take}
 use lib.IntN.{ℤ}
 use borrow.Author.Needs.{needs}
 use borrow.Rule.Slice.PartMut.{same-len-mid}
+use Rattle.rule.specs.Refusal.{mostLiveBidders}
 use Rattle.differences.specs.Table.{opening}
 use Rattle.differences.specs.Lent.{flatAll}
 use Rattle.live.specs.Tables.{openTables}
@@ -15,7 +16,7 @@ use Rattle.live.proofs.tables.fill_all.Statement.{statement}
 use Rattle.live.proofs.tables.fill_all.Tie as tie
 
 abbrev Inv-loop : tie.InvT-loop
-Inv-loop tables₀ bidders items k₀ tables k = (k ≤ bidders) × (bidders ≤ 64) × (length tables ≡ bidders * 1089) × (take (k * 1089) tables ≡ flatAll k (λ k. opening items))
+Inv-loop tables₀ bidders items k₀ tables k = (k ≤ bidders) × (bidders ≤ mostLiveBidders) × (length tables ≡ bidders * 1089) × (take (k * 1089) tables ≡ flatAll k (λ k. opening items))
 
 abbrev μ-loop : tie.MeasureT-loop
 μ-loop tables₀ bidders items k₀ tables k = bidders - k
