@@ -3,15 +3,16 @@
 use Prim.Native.Nat.{ℕ}
 use mathlib.Core.Path.{_≡_, refl}
 use mathlib.Core.List.{List, [], _∷_}
+use lib.ListN.{replicate}
 use Rattle.sets.specs.Count.{anyBelow}
 use Rattle.rule.specs.Refusal.{first, badItems, badBidders, badLength, anyOver, anyUnder, badFloors, badBidder}
 use Rattle.bids.specs.Lent.{lineOf}
-use Rattle.bids.specs.Refusal.{sealedAboveRefusal}
+use Rattle.bids.specs.Refusal.{sealedAboveRefusal, sealedRefusal}
 use Rattle.bids.specs.Line.{hasRow, rowShown, rowStart, lineRefusal, shown, lineShown, lineStart}
 
 -- the definitions that the cases compute with
 computing : Unit {0}
-unfolding anyBelow first badItems badBidders badLength anyOver anyUnder badFloors badBidder sealedAboveRefusal lineOf hasRow rowShown rowStart lineRefusal shown lineShown lineStart
+unfolding anyBelow first badItems badBidders badLength anyOver anyUnder badFloors badBidder sealedAboveRefusal sealedRefusal lineOf hasRow rowShown rowStart lineRefusal shown lineShown lineStart
 computing = tt
 
 -- the bids of bidders 1, 2 and 3
@@ -48,6 +49,15 @@ pub exact-lengths : (refusedBy (4096 ∷ 0 ∷ []) (4097 ∷ []) (4096 ∷ []) �
     × (refusedBy (4095 ∷ []) (4095 ∷ []) (1 ∷ []) ≡ 0)
 unfolding computing
 exact-lengths = (refl, refl, refl, refl)
+
+-- 64 bidders are not turned down by 2, nor is the line of the last of them: 40 is the limit of live auctions alone
+pub sixty-four : (sealedAboveRefusal 32 64 [] [] [] ≡ 3) × (sealedRefusal 32 64 [] [] ≡ 3)
+unfolding computing
+sixty-four = (refl, refl)
+
+pub line-64 : (lineRefusal 1 64 64 (replicate 64 9) ≡ 0) × (lineRefusal 1 65 65 (replicate 65 9) ≡ 2)
+unfolding computing
+line-64 = (refl, refl)
 
 -- before that 1, and then 2, where nothing fits
 pub counts-first : (sealedAboveRefusal 0 0 (1 ∷ []) [] [] ≡ 1) × (sealedAboveRefusal 33 65 [] [] [] ≡ 1) × (sealedAboveRefusal 1 0 [] [] [] ≡ 2) × (sealedAboveRefusal 32 65 [] [] [] ≡ 2)

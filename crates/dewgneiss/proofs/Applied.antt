@@ -64,6 +64,11 @@ pub counts : (lentAboveRefusal 0 0 (one 0) [] [] [] [] [] [] ≡ 1) × (lentAbov
 unfolding computing
 counts = (refl, refl, refl, refl)
 
+-- 64 bidders are not too many
+pub sixty-four : (lentAboveRefusal 32 64 [] [] [] [] [] [] [] ≡ 3) × (lentRefusal 32 64 [] [] [] [] [] [] ≡ 3)
+unfolding computing
+sixty-four = (refl, refl)
+
 -- ---- tables: the arguments beside a part, which may hold anything; what is asked of it stays shut
 
 asking : Unit {0}

@@ -39,6 +39,11 @@ pub too-few : sheetRefusal twoBytes 31 ≡ 3
 unfolding computing
 too-few = refl
 
+-- of the bytes 0140 and 0141 alone: 64 bidders are not too many for a sheet, whose first line is cut off, and 65 are
+pub sixty-four : (sheetRefusal (48 ∷ 49 ∷ 52 ∷ 48 ∷ []) 528 ≡ 6) × (sheetRefusal (48 ∷ 49 ∷ 52 ∷ 49 ∷ []) 528 ≡ 2)
+unfolding computing
+sixty-four = (refl, refl)
+
 -- by value
 pub is-read : contentsOf twoBytes ≡ record { refusal = 0; items = 1; bidders = 2; start = 1 ∷ replicate 31 0; bids = 2 ∷ 2 ∷ replicate 2046 0 }
 unfolding computing
