@@ -191,6 +191,11 @@ pub fn table(turns: usize, reading: &mut f64) -> usize {
                 _ = black_box(close(black_box(&bad[k]), &mut b))
             }],
         );
+        // Each sheet once, one program after the other: what the processor has learned of a sheet's digits is of no use.
+        let fresh: Vec<Vec<u8>> =
+            (0..500).map(|_| sheet::write(&over_at_last(&random(32, 64, TOP, |r| r.amount(TOP), &mut r)))).collect();
+        let [proved_once] = race(1, fresh.len(), [&mut |k| _ = black_box(proved(black_box(&fresh[k]), &mut a))]);
+        let [plain_once] = race(1, fresh.len(), [&mut |k| _ = black_box(close(black_box(&fresh[k]), &mut b))]);
         let whole = race(
             turns,
             good.len(),
@@ -211,6 +216,7 @@ pub fn table(turns: usize, reading: &mut f64) -> usize {
         *reading = read[0] / read[1];
         for (what, [proved, plain]) in [
             ("a bid sheet is read, and turned down for its last bid", read),
+            ("the same of sheets that are read once", [proved_once, plain_once]),
             ("a closing sheet of three lines is written", write),
             ("a bid sheet is closed, random, from anywhere", whole),
         ] {
