@@ -55,11 +55,18 @@ module _ (r : Auction) (ts : List ℤ) (line out : List ℕ) where
   pub no-room : length out < longestAnswer → Answers (toldTo r ts line (length out)) out out ts (record { length = 0; next = r })
   no-room l = nothing (ap (λ (b : Bool). not (eqb (length ts) heldNumbers) || b) (lt-ltb (length out) longestAnswer l) ∙ or-true (not (eqb (length ts) heldNumbers)))
 
+  -- with the tables of the most bidders and room for the longest answer the line is answered
+  pub with-room : (after : List ℕ) (left : List ℤ) (a : Answered) → length ts ≡ heldNumbers → longestAnswer ≤ length out → Answers (told r ts line) out after left a
+      → Answers (toldTo r ts line (length out)) out after left a
+  with-room after left a long l =
+      subst (λ (t : Told). Answers t out after left a)
+      (sym (by-test false (ap₂ (λ (x y : Bool). not x || y) (eq-eqb (length ts) heldNumbers long) (le-ltb (length out) longestAnswer l))))
+
   -- what was put, with the order's answer by its name
-  pub answers : (after : List ℕ) (left : List ℤ) (a : Answered) (t : Said) → length ts ≡ heldNumbers → longestAnswer ≤ length out → told r ts line ≡ beside left t
-      → Puts t out after a → Answers (toldTo r ts line (length out)) out after left a
-  answers after left a t long l e p =
-      subst (λ (u : Told). Answers u out after left a) (sym (by-test false room ∙ e))
+  pub answers : (after : List ℕ) (left : List ℤ) (a : Answered) (t : Said) → longestAnswer ≤ length out → told r ts line ≡ beside left t → Puts t out after a
+      → Answers (told r ts line) out after left a
+  answers after left a t l e p =
+      subst (λ (u : Told). Answers u out after left a) (sym e)
       (record {
         next = p .next;
         counted = p .counted;
@@ -69,9 +76,6 @@ module _ (r : Auction) (ts : List ℤ) (line out : List ℕ) where
         part = sym (length-take-le (a .length) after inside);
       })
     where
-      room : (not (eqb (length ts) heldNumbers) || ltb (length out) longestAnswer) ≡ false
-      room = ap₂ (λ (x y : Bool). not x || y) (eq-eqb (length ts) heldNumbers long) (le-ltb (length out) longestAnswer l)
-
       inside : a .length ≤ length after
       inside = omega (arith, p .counted, p .small, ap length (p .put) ∙ length-sets out 0 (t .bytes), l)
 

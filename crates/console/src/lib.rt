@@ -23,7 +23,7 @@ ghost use Rattle.digits.specs.Reading.{numberAt};
 ghost use Rattle.rule.specs.Round.{Round};
 ghost use Rattle.live.specs.Calls.{openNumber, openAboveNumber, openAuction, openAbove, filledBy, endingOf, gives};
 ghost use Rattle.console.specs.Orders.{opening, reporting, orderOf, amountsAt, amountsOf, startsOf, floorsOf};
-ghost use Rattle.console.specs.Answers.{pricesText, opens, replies, ends, reads};
+ghost use Rattle.console.specs.Answers.{pricesText, opens, replies, ends, reads, told};
 ghost use Rattle.console.specs.Steps.{longestAnswer, heldNumbers, openBy, letterOrder, isRead, Puts, toldTo, Answers};
 
 // How many numbers the tables have that the console holds: 1,089 for each of the most bidders.
@@ -344,23 +344,11 @@ fn cut(bidders: usize) -> usize
     HELD_NUMBERS
 }
 
-// Answers a line: what is written to the front of `out`, the record to keep, and the tables, which are those of the most bidders. Where these are not 43,560
-// numbers, or `out` has fewer than 226 bytes, nothing is done.
-pub fn answer(held: Auction, line: &[u8], out: &mut [u8], tables: &mut [i16]) -> Answered
-    ensures { λ r. ⌜ Answers (toldTo held (now (tables .entry)) (now (line .entry)) (length (now (out .entry)))) (now (out .entry)) (now (out .exit)) (now (tables .exit)) r ⌝ }
+// Carries out the order of a line, with the tables of the most bidders and room for the longest answer.
+fn carry_out(held: Auction, line: &[u8], out: &mut [u8], tables: &mut [i16]) -> Answered
+    requires { ⌜ (length (now tables) ≡ heldNumbers) × (longestAnswer ≤ length (now out)) ⌝ }
+    ensures { λ r. ⌜ Answers (told held (now (tables .entry)) (now (line .entry))) (now (out .entry)) (now (out .exit)) (now (tables .exit)) r ⌝ }
 {
-    if tables.len() != HELD_NUMBERS {
-        return Answered {
-            length: 0,
-            next: held,
-        };
-    }
-    if out.len() < LONGEST_ANSWER {
-        return Answered {
-            length: 0,
-            next: held,
-        };
-    }
     let own = cut(held.bidders);
     let o = order_of(line);
     match o {
@@ -390,4 +378,24 @@ pub fn answer(held: Auction, line: &[u8], out: &mut [u8], tables: &mut [i16]) ->
             },
         ),
     }
+}
+
+// Answers a line: what is written to the front of `out`, the record to keep, and the tables, which are those of the most bidders. Where these are not 43,560
+// numbers, or `out` has fewer than 226 bytes, nothing is done.
+pub fn answer(held: Auction, line: &[u8], out: &mut [u8], tables: &mut [i16]) -> Answered
+    ensures { λ r. ⌜ Answers (toldTo held (now (tables .entry)) (now (line .entry)) (length (now (out .entry)))) (now (out .entry)) (now (out .exit)) (now (tables .exit)) r ⌝ }
+{
+    if tables.len() != HELD_NUMBERS {
+        return Answered {
+            length: 0,
+            next: held,
+        };
+    }
+    if out.len() < LONGEST_ANSWER {
+        return Answered {
+            length: 0,
+            next: held,
+        };
+    }
+    carry_out(held, line, out, tables)
 }
