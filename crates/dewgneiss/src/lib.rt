@@ -1,5 +1,5 @@
 // The sealed auction, the sheets and the tables, for Rust or C to link: a slice is passed as its address and its length.
-mod tables; // tables.rt: one bidder's table of differences
+pub mod tables; // tables.rt: one bidder's table of differences
 
 ghost use mathlib.Core.Path.{_≡_};
 ghost use mathlib.Core.List.{[], _∷_};

@@ -1,0 +1,90 @@
+-- Demand 2, from the definitions and the theorems of `rule`. Assumes nothing.
+use Prim.Native.Nat.{ℕ, suc, _+_, _-_, _<_}
+use mathlib.Core.Path.{_≡_, refl, sym, ap, _∙_, subst}
+use mathlib.Core.List.{List}
+use Rattle.sets.specs.Count.{toNat}
+use Rattle.sets.specs.Bit.{has}
+use Rattle.rule.specs.Sheet.{Sheet, amount}
+use Rattle.rule.specs.Demand.{surplusAtLeast, best}
+use Rattle.rule.specs.Excess.{crowded, inExcess, inPositiveExcess}
+use Rattle.rule.specs.Round.{Round, raised, lowered, State, move, opening, after, path, close}
+use Rattle.rule.specs.Assignment.{isAssignment, fits}
+use Rattle.rule.specs.Closing.{Closing, excessDemandAt, excessSupplyAt, roundOf}
+use Rattle.rule.proofs.Zeros as zeros
+use Rattle.rule.proofs.Moves as moves
+use Rattle.rule.proofs.Largest as largest
+use Rattle.rule.proofs.EmptySets as empty
+use Rattle.rule.proofs.Closing.{closing}
+use Rattle.promises.specs.Demand2.{Demands, Sets, Names, Rounds, Demand2}
+use Rattle.promises.proofs.Live.{live}
+
+-- what is said of a closing's numbers holds of those of the sheet's close
+pub at-close : (s : Sheet) (c : Closing s) (P : ℕ → ℕ → List ℕ → Type 0) → P (c .ups) (c .downs) (c .prices) → P (close s .ups) (close s .downs) (close s .prices)
+at-close s c P = subst (λ (t : State). P (t .ups) (t .downs) (t .prices)) (sym (c .close-is))
+
+demands : Demands
+unfolding amount surplusAtLeast best
+demands =
+    record {
+      null-is-free = λ xs. refl;
+      best-is = λ m p b i. refl;
+      null-demanded = zeros.null-is;
+      pan-demanded = zeros.item-is;
+    }
+
+sets : Sets
+unfolding crowded inExcess inPositiveExcess
+sets =
+    record {
+      in-excess = λ m ds s. refl;
+      rising-in-excess = largest.demand-excess;
+      rising-largest = largest.demand-has;
+      rising-unique = largest.demand-only;
+      in-tilde = λ m above ds s. refl;
+      tilde-in-excess = largest.positive-excess;
+      tilde-largest = largest.positive-has;
+      tilde-unique = largest.positive-only;
+      falling-is = largest.supply-has;
+      rising-empty = empty.rising-empty-at;
+      falling-empty = empty.falling-empty;
+    }
+
+names : Names
+unfolding isAssignment fits
+names = record { naming-is = λ m n xs. refl; fits-is = λ m above ds xs. refl }
+
+-- a state's prices after a round that raises, and after one that lowers
+pub raised-by : (m : ℕ) (t : State) (x : ℕ) (r : Round) → r ≡ raised x → (i : ℕ) → i < suc m → amount (move m t r .prices) i ≡ amount (t .prices) i + toNat (has x i)
+unfolding move
+raised-by m t x r e i l = ap (λ (r : Round). amount (move m t r .prices) i) e ∙ moves.raise-at m (t .prices) x i l
+
+pub lowered-by : (m : ℕ) (t : State) (x : ℕ) (r : Round) → r ≡ lowered x → (i : ℕ) → i < suc m → amount (move m t r .prices) i ≡ amount (t .prices) i - toNat (has x i)
+unfolding move
+lowered-by m t x r e i l = ap (λ (r : Round). amount (move m t r .prices) i) e ∙ moves.lower-at m (t .prices) x i l
+
+rounds : (s : Sheet) → (c : Closing s) → Rounds s (c .ups) (c .downs) (c .prices)
+unfolding opening after path
+rounds s c =
+    record {
+      from-start = refl;
+      rises = c .rises;
+      up-by-one = λ k l. raised-by (s .items) (path s k) (excessDemandAt s (path s k .prices)) (roundOf s k) (c .rises k l);
+      before-turn = c .before-turn;
+      from-turn = c .calm;
+      falls = c .falls;
+      down-by-one = λ k l. lowered-by (s .items) (path s (c .ups + k)) (excessSupplyAt s (path s (c .ups + k) .prices)) (roundOf s (c .ups + k)) (c .falls k l);
+      closes-if = c .closes-where;
+      closes-only-if = c .closes-only;
+      closes = c .closes;
+      not-before = c .before-close;
+      stays = c .stays;
+      at-close = c .at-close ∙ sym (c .close-is);
+      no-excess = c .no-excess;
+      no-supply = c .no-supply;
+      names-fit = c .fitting;
+      names-first = c .first;
+      names-only = c .only-first;
+    }
+
+pub demand2 : Demand2
+demand2 = record { demands = demands; sets = sets; names = names; rounds = λ s e. at-close s (closing s e) (Rounds s) (rounds s (closing s e)); live = live }

@@ -1,0 +1,109 @@
+-- Demand 3 of sealed letting, from the theorems of `rule` and `sheet`. Assumes nothing.
+use Prim.Native.Nat.{ℕ, zero, suc, _≤_}
+use mathlib.Core.Path.{_≡_, refl, sym, ap, _∙_, subst}
+use mathlib.Core.Bool.{Bool, true, cond}
+use mathlib.Core.List.{List, []}
+use borrow.Author.Tests.{le-ltb}
+use lib.ListN.{length}
+use Rattle.rule.specs.Sheet.{Sheet, withinLimits}
+use Rattle.rule.specs.Round.{State, path, close}
+use Rattle.rule.specs.Closing.{assignmentAt, Closing}
+use Rattle.rule.proofs.EmptySets.{at-close, only-at-close}
+use Rattle.rule.proofs.Closing.{closing}
+use Rattle.rule.specs.Gains.{gainsAt}
+use Rattle.lines.specs.Lines.{newline, numberText, numberLine, amountsLine, closingSheet, sealedSheet, writtenTo}
+use Rattle.bids.proofs.Limits.{accepted-within}
+use Rattle.auction.specs.Sealed.{closed, fallingClosed}
+use Rattle.auction.proofs.Sealing.{above-closed, falling-closed, sealed-closed}
+use Rattle.lines.proofs.ReadBack.{read-back, sealed-back}
+use Rattle.sheet.specs.Writing.{bidLine, bidSheet}
+use Rattle.sheet.specs.Close.{bidSheetOf, sheetRefusal, byNumber, closingOf, answerOf}
+use Rattle.sheet.specs.Accepted.{sheetIn, sheetOfClosing}
+use Rattle.sheet.proofs.ReadWritten.{read-written, written-read}
+use Rattle.sheet.proofs.Sixes.{written-no-six, read-no-six, not-six-read}
+use Rattle.sheet.proofs.Room.{no-three}
+use Rattle.sheet.proofs.Reading.{same-number}
+use Rattle.sheet.proofs.Accepted.{promised, accepted-sheet, accepted-answer}
+use Rattle.promises.specs.Demand3Sealed.{Close, closingSheetOf, Outcomes, Sheets, Demand3Sealed}
+use Rattle.promises.proofs.Demand2 as rounds
+
+of-closing : (s : Sheet) (c : Closing s) → Close s (c .ups) (c .downs) (c .turn) (c .prices)
+of-closing s c =
+    record {
+      balance = (c .balance .from-floors, (c .balance .assigned, c .balance .balances));
+      least = λ q e. c .least q (record { from-floors = e .0; assigned = e .1 .0; balances = e .1 .1 });
+      unique = c .unique;
+      none-over = at-close s c .0;
+      none-under = at-close s c .1;
+      only-there = only-at-close s c;
+      highest = c .highest;
+      largest-rise = c .largest-rise;
+      largest-fall = c .largest-fall;
+      few-raised = c .ups-max;
+      few-lowered = c .downs-max;
+      turn-above = c .turn-above;
+      turn-least = c .turn-least;
+      close-below = c .close-below;
+      range = c .range;
+      above-floor = c .above-floor;
+      raisable = c .raisable;
+    }
+
+pub closes : (s : Sheet) → withinLimits s ≡ true → Close s (close s .ups) (close s .downs) (path s (close s .ups) .prices) (close s .prices)
+closes s e =
+    let c = closing s e in
+    rounds.at-close s c (λ u d p. Close s u d (path s u .prices) p)
+    (subst (λ (t : List ℕ). Close s (c .ups) (c .downs) t (c .prices)) (sym (ap (λ (t : State). t .prices) (c .at-turn))) (of-closing s c))
+
+-- the closing sheet of a closing is that of the sheet's close
+closing-sheet : (s : Sheet) (c : Closing s) → sheetOfClosing s c ≡ closingSheetOf s
+unfolding sheetOfClosing
+closing-sheet s c =
+    ap (λ (t : State). sealedSheet (s .items) (length (s .bids)) (t .ups) (t .downs) (t .prices) (assignmentAt s (t .prices)) (gainsAt s (t .prices))) (sym (c .close-is))
+
+outcomes : Outcomes
+unfolding closed fallingClosed
+outcomes =
+    record {
+      within = λ m n start floors bids e. accepted-within m n start floors bids e .1;
+      without-floors = λ m n start bids e. sym (sealed-closed m n start bids e);
+      with-floors = λ m n start floors bids e. sym (above-closed m n start floors bids e);
+      falling-first = λ m n start floors bids e. sym (falling-closed m n start floors bids e);
+    }
+
+-- under a number its line is printed, where there is room for that
+number-printed : (bytes : List ℕ) (room : ℕ) → 3 ≤ room → (sheetRefusal bytes room ≡ 0 → ⊥) → answerOf bytes room ≡ numberLine (sheetRefusal bytes room)
+unfolding answerOf
+number-printed bytes room l ne =
+    ap (λ (b : Bool). cond b [] (byNumber (sheetRefusal bytes room) (closingOf (bidSheetOf bytes)) (numberLine (sheetRefusal bytes room)))) (le-ltb room 3 l)
+    ∙ go (sheetRefusal bytes room) ne
+  where
+    go : (x : ℕ) → (x ≡ 0 → ⊥) → byNumber x (closingOf (bidSheetOf bytes)) (numberLine x) ≡ numberLine x
+    go zero h = absurd (h refl)
+    go (suc j) h = refl
+
+sheets : Sheets
+unfolding newline numberText numberLine amountsLine closingSheet bidLine bidSheet sheetIn writtenTo
+sheets =
+    record {
+      bid-sheet = λ b. refl;
+      read-written = read-written;
+      written-read = written-read;
+      written-no-six = written-no-six;
+      read-no-six = read-no-six;
+      not-six-read = λ bytes room a b c. not-six-read bytes room a b c .0;
+      says = λ bytes. refl;
+      three-lines = λ m n u d p xs. refl;
+      number-line = λ x. refl;
+      read-back = read-back;
+      sealed-back = sealed-back;
+      within = λ bytes room e. promised bytes room e .within;
+      written = λ bytes out e. let a = accepted-sheet bytes out e in a .written ∙ ap (writtenTo out) (closing-sheet (sheetIn bytes) (a .promised .closing));
+      printed = λ bytes room e. accepted-answer bytes room e ∙ closing-sheet (sheetIn bytes) (promised bytes room e .closing);
+      number-printed = number-printed;
+      enough = no-three;
+      same-number = same-number;
+    }
+
+pub demand3 : Demand3Sealed
+demand3 = record { closes = closes; outcomes = outcomes; sheets = sheets }

@@ -1,0 +1,15 @@
+pub mod Demand1
+pub mod Live
+pub mod Demand2
+pub mod Demand3Sealed
+pub mod Demand3Live
+pub mod Cases
+pub mod Reasons
+pub mod Zeros
+pub mod Floors
+pub mod FallingFirst
+pub mod Digits
+pub mod Gains
+pub mod Tables
+pub mod Forty
+pub mod Promises
