@@ -12,7 +12,7 @@ use Rattle.rule.specs.Sheet.{Sheet}
 use Rattle.rule.specs.Round.{Round, closed, State, path, close}
 use Rattle.rule.specs.Closing.{roundOf, assignmentAt, phaseAfter}
 use Rattle.rule.specs.FallingFirst.{fallingPath, fallingRoundOf, fallingClose, risingAfter}
-use Rattle.rule.proofs.Refusal.{passed, exact}
+use Rattle.rule.proofs.Refusal.{passed, first-nil, exact}
 use Rattle.rule.proofs.Closing.{closing}
 use Rattle.rule.proofs.FallingClosing.{falling-closing}
 use Rattle.rule.specs.Refusal.{first, badItems, badBidders, badLength, anyOver}
@@ -111,9 +111,10 @@ lettings =
 
 -- 32 pans and 64 rakers: no number where lengths and amounts are in order
 most : (start bids : List ℕ) → length start ≡ 32 → length bids ≡ 64 * 32 → anyOver start ≡ false → anyOver bids ≡ false → sealedRefusal 32 64 start bids ≡ 0
-unfolding first badItems badBidders sealedRefusal
+unfolding badItems badBidders sealedRefusal
 most start bids ls lb os ob =
-    passed 3 (badLength start 32) _ (exact start 32 ls) ∙ passed 3 (badLength bids (64 * 32)) _ (exact bids (64 * 32) lb) ∙ passed 4 (anyOver start) _ os ∙ passed 5 (anyOver bids) _ ob
+    passed 1 (badItems 32) _ refl ∙ passed 2 (badBidders 64) _ refl ∙ passed 3 (badLength start 32) _ (exact start 32 ls)
+    ∙ passed 3 (badLength bids (64 * 32)) _ (exact bids (64 * 32) lb) ∙ passed 4 (anyOver start) _ os ∙ passed 5 (anyOver bids) _ ob ∙ first-nil
 
 also : Also
 unfolding first anyBelow badItems badBidders badLength anyOver sealedRefusal

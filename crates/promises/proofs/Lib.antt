@@ -13,3 +13,4 @@ pub mod Gains
 pub mod Tables
 pub mod Forty
 pub mod Promises
+pub mod Calls

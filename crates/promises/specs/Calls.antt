@@ -13,6 +13,8 @@ use Rattle.rule.specs.Equilibrium.{Below}
 use Rattle.rule.specs.Closing.{assignmentAt}
 use Rattle.rule.specs.Gains.{gainsAt}
 use Rattle.auction.specs.declared.Closing.{Closing}
+use Rattle.live.specs.declared.Auction.{Auction}
+use Rattle.bench_exports.specs.Lent.{phaseNumber}
 use Rattle.promises.specs.Gains.{Gaining}
 
 -- a sealed outcome r by value that no number turned down, of sheet s, whose path is at c at its close: rounds, rents in 32 places, names and gains in 64
@@ -43,3 +45,12 @@ pub record Least (m : ℕ) (bids : List (List ℕ)) (base p : List ℕ) : Type 0
   pub no-excess : excessDemand m (demands m bids p) ≡ 0
   pub lowest : (q : List ℕ) → Below base q → excessDemand m (demands m bids q) ≡ 0 → Below p q
   pub places-32 : length p ≡ 32
+
+-- a record in lent lists: counts, who says no pan and who has reported; rents, floors, reported sets; rounds raised and lowered, and the phase, 0 rising, 1 falling, 2
+-- closed
+pub record InLists (r : Auction) (numbers prices floors sets rounds : List ℕ) : Type 0 where
+  pub numbers-are : numbers ≡ r .items ∷ r .bidders ∷ r .nulls ∷ r .reported ∷ []
+  pub prices-are : prices ≡ r .prices
+  pub floors-are : floors ≡ r .floors
+  pub sets-are : sets ≡ r .sets
+  pub rounds-are : rounds ≡ r .raised ∷ r .lowered ∷ phaseNumber (r .phase) ∷ []
