@@ -7,6 +7,7 @@ use Rattle.sets.specs.Lists.{places}
 use Rattle.matching.specs.Demand as matching
 use Rattle.rule.specs.Sheet.{Sheet, withinLimits}
 use Rattle.rule.specs.Round.{State, close}
+use Rattle.rule.specs.Equilibrium.{Below}
 use Rattle.rule.specs.Closing.{assignmentAt}
 use Rattle.rule.specs.Gains.{gainsAt, Gains}
 use Rattle.rule.specs.FallingFirst.{fallingClose}
@@ -58,6 +59,7 @@ pub rising-too : (m n : ℕ) (start floors bids : List ℕ) (r : Closing) → r 
 rising-too m n start floors bids r e z = above-closed m n start floors bids (sym (falling-number m n start floors bids) ∙ ap (λ (x : Closing). x .refusal) (sym e) ∙ z)
 
 pub least : (m : ℕ) (bids : List (List ℕ)) (base p : List ℕ) → lower.Least m bids base p → Least m bids base p
+unfolding Below
 least m bids base p l = record { from-base = l .least .above; no-excess = l .least .empty; lowest = l .least .least; places-32 = l .long }
 
 -- ---- into lent lists

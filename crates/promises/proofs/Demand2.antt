@@ -8,7 +8,7 @@ use Rattle.rule.specs.Sheet.{Sheet, amount}
 use Rattle.rule.specs.Demand.{surplusAtLeast, best}
 use Rattle.rule.specs.Excess.{crowded, inExcess, inPositiveExcess}
 use Rattle.rule.specs.Round.{Round, raised, lowered, State, move, opening, after, path, close}
-use Rattle.rule.specs.Assignment.{isAssignment, fits}
+use Rattle.rule.specs.Assignment.{isAssignment, fits, total, floorTotal}
 use Rattle.rule.specs.Closing.{Closing, excessDemandAt, excessSupplyAt, roundOf}
 use Rattle.rule.proofs.Zeros as zeros
 use Rattle.rule.proofs.Moves as moves
@@ -50,8 +50,8 @@ sets =
     }
 
 names : Names
-unfolding isAssignment fits
-names = record { naming-is = λ m n xs. refl; fits-is = λ m above ds xs. refl }
+unfolding isAssignment fits total floorTotal
+names = record { naming-is = λ m n xs. refl; fits-is = λ m above ds xs. refl; total-is = λ bids xs. refl; floors-are = λ floors xs. refl }
 
 -- a state's prices after a round that raises, and after one that lowers
 pub raised-by : (m : ℕ) (t : State) (x : ℕ) (r : Round) → r ≡ raised x → (i : ℕ) → i < suc m → amount (move m t r .prices) i ≡ amount (t .prices) i + toNat (has x i)

@@ -7,11 +7,16 @@ use borrow.Author.Tests.{le-ltb}
 use lib.ListN.{length}
 use Rattle.rule.specs.Sheet.{Sheet, withinLimits}
 use Rattle.rule.specs.Round.{State, path, close}
+use Rattle.rule.specs.Equilibrium.{Below}
 use Rattle.rule.specs.Closing.{assignmentAt, Closing}
 use Rattle.rule.proofs.EmptySets.{at-close, only-at-close}
 use Rattle.rule.proofs.Closing.{closing}
 use Rattle.rule.specs.Gains.{gainsAt}
+use Rattle.digits.specs.Digits.{digit, hex}
+use Rattle.digits.proofs.Stands.{itself}
+use Rattle.digits.proofs.Numbers.{number-at}
 use Rattle.lines.specs.Lines.{newline, numberText, numberLine, amountsLine, closingSheet, sealedSheet, writtenTo}
+use Rattle.bids.specs.Lent.{lineOf, rowsOf, sheetAbove}
 use Rattle.bids.proofs.Limits.{accepted-within}
 use Rattle.auction.specs.Sealed.{closed, fallingClosed}
 use Rattle.auction.proofs.Sealing.{above-closed, falling-closed, sealed-closed}
@@ -28,6 +33,7 @@ use Rattle.promises.specs.Demand3Sealed.{Close, closingSheetOf, Outcomes
 use Rattle.promises.proofs.Demand2 as rounds
 
 of-closing : (s : Sheet) (c : Closing s) → Close s (c .ups) (c .downs) (c .turn) (c .prices)
+unfolding Below
 of-closing s c =
     record {
       balance = (c .balance .from-floors, (c .balance .assigned, c .balance .balances));
@@ -62,9 +68,10 @@ closing-sheet s c =
     ap (λ (t : State). sealedSheet (s .items) (length (s .bids)) (t .ups) (t .downs) (t .prices) (assignmentAt s (t .prices)) (gainsAt s (t .prices))) (sym (c .close-is))
 
 outcomes : Outcomes
-unfolding closed fallingClosed
+unfolding closed fallingClosed lineOf rowsOf sheetAbove
 outcomes =
     record {
+      sheet-is = λ m n start floors bids. refl;
       within = λ m n start floors bids e. accepted-within m n start floors bids e .1;
       without-floors = λ m n start bids e. sym (sealed-closed m n start bids e);
       with-floors = λ m n start floors bids e. sym (above-closed m n start floors bids e);
@@ -83,9 +90,12 @@ number-printed bytes room l ne =
     go (suc j) h = refl
 
 sheets : Sheets
-unfolding newline numberText numberLine amountsLine closingSheet bidLine bidSheet sheetIn writtenTo
+unfolding digit hex newline numberText numberLine amountsLine closingSheet bidLine bidSheet sheetIn writtenTo
 sheets =
     record {
+      no-digits = λ x. refl;
+      last-digit = λ k x. refl;
+      digits-read = λ k x l. number-at (hex k x) k 0 x l (itself (hex k x));
       bid-sheet = λ b. refl;
       read-written = read-written;
       written-read = written-read;

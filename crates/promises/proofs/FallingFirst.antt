@@ -5,6 +5,7 @@ use mathlib.Core.Bool.{true}
 use mathlib.Core.List.{List}
 use Rattle.rule.specs.Sheet.{Sheet, withinLimits}
 use Rattle.rule.specs.Round.{State}
+use Rattle.rule.specs.Equilibrium.{Below}
 use Rattle.rule.specs.Closing.{excessDemandAt, excessSupplyAt, assignmentAt}
 use Rattle.rule.specs.FallingFirst.{fallingPath, fallingRoundOf, fallingClose, FallingClosing}
 use Rattle.rule.proofs.FallingClosing.{falling-closing}
@@ -12,7 +13,7 @@ use Rattle.promises.specs.FallingFirst.{Falls, Request104}
 use Rattle.promises.proofs.Demand2.{raised-by, lowered-by}
 
 of-closing : (s : Sheet) (c : FallingClosing s) → Falls s (c .downs) (c .ups) (c .turn) (c .prices)
-unfolding fallingPath
+unfolding fallingPath Below
 of-closing s c =
     let same = c .same-prices ∙ sym (ap (λ (t : State). t .prices) (c .rising-first .close-is)) in
     record {

@@ -12,7 +12,6 @@ use Rattle.rule.specs.Demand.{demands}
 use Rattle.rule.specs.Excess.{aboveFloors}
 use Rattle.rule.specs.Round.{close}
 use Rattle.rule.specs.Assignment.{isAssignment, option, total}
-use Rattle.rule.specs.Equilibrium.{Below}
 use Rattle.rule.specs.Closing.{excessDemandAt, excessSupplyAt, assignmentAt}
 use Rattle.rule.proofs.AtPrices.{demands-length}
 use Rattle.rule.proofs.Limits.{aboveFloors-is}
@@ -30,7 +29,6 @@ use Rattle.promises.proofs.Demand3Sealed.{demand3}
 
 unlet : (s : Sheet) → withinLimits s ≡ true → (i : ℕ) → i < suc (s .items) → ((b : ℕ) → b < length (s .bids) → option (assignmentAt s (close s .prices)) b ≡ i → ⊥)
     → amount (close s .prices) i ≡ amount (s .floors) i
-unfolding Below
 unlet s e i l nobody = go (has above i) refl
   where
     above : ℕ

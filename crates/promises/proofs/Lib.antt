@@ -3,6 +3,8 @@ pub mod Live
 pub mod Demand2
 pub mod Demand3Sealed
 pub mod Demand3Live
+pub mod Lettings
+pub mod Example6
 pub mod Cases
 pub mod Reasons
 pub mod Zeros

@@ -12,6 +12,7 @@ use Rattle.rule.specs.Assignment.{option}
 use Rattle.rule.specs.Round.{opening, mostRounds, close}
 use Rattle.rule.specs.Former.{formerDemand, formerDemands, formerRoundAt, formerAfter, formerPath, formerClose, formerReasonAt}
 use Rattle.rule.specs.Excess.{aboveFloors}
+use Rattle.rule.specs.Equilibrium.{Below}
 use Rattle.rule.specs.Closing.{assignmentAt}
 use Rattle.rule.proofs.Zeros as zeros
 use Rattle.rule.proofs.Limits.{aboveFloors-is}
@@ -60,7 +61,7 @@ module _ (m n : ℕ) (start floors bids : List ℕ) (e : sealedAboveRefusal m n 
       to-line _ (falling-bid-for s (fallingFirstOf m n start floors bids) (falling-promised m n start floors bids (fallingFirstOf m n start floors bids) refl (falling-number m n start floors bids ∙ e)) b long h)
 
 pub request102 : Request102
-unfolding opening formerDemands formerAfter formerPath formerRoundAt formerDemand mostRounds formerClose formerReasonAt formerReasonSheet
+unfolding Below opening formerDemands formerAfter formerPath formerRoundAt formerDemand mostRounds formerClose formerReasonAt formerReasonSheet
 request102 =
     record {
       never-demanded = zeros.demanded-bid;

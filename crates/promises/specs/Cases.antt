@@ -1,6 +1,6 @@
 -- Document 01, "Lettings to try": K1 to K9, as they are since document 02, #102, and falling first (#104); the others of its examples; and document 02's for 16, 17 and
 -- 19 (#107). Assumes nothing: these are statements, which `proofs/Cases` proves.
-use Prim.Native.Nat.{ℕ, _+_, _-_, _*_, _^_, _<_}
+use Prim.Native.Nat.{ℕ, _+_, _-_, _*_, _^_, _≤_, _<_}
 use mathlib.Core.Bool.{true, false}
 use mathlib.Core.List.{List, [], _∷_, map}
 use mathlib.Core.Path.{_≡_}
@@ -18,9 +18,12 @@ use Rattle.reports.specs.Report.{saying}
 use Rattle.differences.specs.Table.{opening}
 use Rattle.differences.specs.Lent.{flatAll}
 use Rattle.bids.specs.Refusal.{sealedRefusal}
+use Rattle.sheet.specs.Close.{answerOf}
+use Rattle.reasons.specs.Sheets.{reasonsIn}
 use Rattle.live.specs.Tables.{badTables}
 use Rattle.live.specs.Calls.{gives, refused}
 use Rattle.agreement.specs.Calls.{Call, reporting, ending, told, ended, run}
+use Rattle.promises.specs.Text.{text}
 use Rattle.promises.specs.Demand3Live.{afterOpening}
 
 -- the set of these pans
@@ -93,6 +96,16 @@ pub record Lettings : Type 0 where
   pub K9-floored : Closes (sheet (5 ∷ 5 ∷ []) (0 ∷ 3 ∷ []) nine) 4 2 (9 ∷ 3 ∷ []) (1 ∷ 0 ∷ 0 ∷ [])
   pub K9-floored-falling-first : ClosesFalling (sheet (5 ∷ 5 ∷ []) (0 ∷ 3 ∷ []) nine) 2 (5 ∷ 3 ∷ []) 4 (9 ∷ 3 ∷ []) (1 ∷ 0 ∷ 0 ∷ [])
 
+-- the bid sheet of example 6
+abbrev pub sixth : List ℕ
+sixth = text "020300040004\n00020006\n00030007\n00060007\n"
+
+-- "Example 6 goes in and comes out as", with the fourth line of #106, "example 6 ending in 000000010004"; and its sheet of reasons (#101)
+pub record Example6 : Type 0 where
+  pub closing : (room : ℕ) → 42 ≤ room → answerOf sixth room ≡ text "000002000002\n00020006\n000201\n000000010004\n"
+  pub reasons : reasonsIn sixth
+      ≡ text "000101000000020000000000000007\n000201000000020000000000000003\n000302000000010000000000000004\n000402000000010000000000000004\n"
+
 -- "Also: 32 pans and 64 rakers accepted, 33 gives 1, 65 gives 2; a start and a bid of 4,096 together give 4"
 pub record Also : Type 0 where
   pub most : (start bids : List ℕ) → length start ≡ 32 → length bids ≡ 64 * 32 → anyOver start ≡ false → anyOver bids ≡ false → sealedRefusal 32 64 start bids ≡ 0
@@ -119,5 +132,6 @@ pub record Reports : Type 0 where
 
 pub record Cases : Type 0 where
   pub lettings : Lettings
+  pub example6 : Example6
   pub also : Also
   pub reports : Reports

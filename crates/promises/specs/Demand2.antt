@@ -10,12 +10,13 @@ use lib.IntN.{ℤ}
 use lib.ListN.{length, replicate, set}
 use Rattle.sets.specs.Count.{_⇒_, toNat, allBelow}
 use Rattle.sets.specs.Bit.{has, setOf, each, size}
+use Rattle.sets.specs.Sum.{sum}
 use Rattle.sets.specs.Lists.{places}
-use Rattle.rule.specs.Sheet.{Sheet, amount, withinLimits}
+use Rattle.rule.specs.Sheet.{Sheet, amount, row, withinLimits}
 use Rattle.rule.specs.Demand.{best, Demand, demand, demands, wants, nth}
 use Rattle.rule.specs.Excess.{bidders, nonEmptyPart, somethingIn, nothingOutside, nothingAboveOutside, overdemanded, weaklyUnderdemanded, inExcess, excessDemand, inPositiveExcess, positiveExcessDemand, excessSupply}
 use Rattle.rule.specs.Round.{raise, lower, raised, lowered, closed, path, close}
-use Rattle.rule.specs.Assignment.{option, holders, isAssignment, fits, NotAfter, assignment}
+use Rattle.rule.specs.Assignment.{option, holders, isAssignment, fits, NotAfter, assignment, total, floorTotal}
 use Rattle.rule.specs.Closing.{excessDemandAt, excessSupplyAt, FitsAt, assignmentAt, roundOf}
 use Rattle.lines.specs.Lines.{closingSheet, writtenTo}
 use Rattle.live.specs.Auction.{reportsOf, itemsAbove, risingSet, fallingSet}
@@ -68,6 +69,9 @@ pub record Names : Type 0 where
   -- "every raker gets something from their demand, no pan goes to two, and every pan of rent above 0 is let"
   pub fits-is : (m above : ℕ) (ds : List Demand) (xs : List ℕ) → fits m above ds xs
       ≡ isAssignment m (length ds) xs && allBelow (length ds) (λ b. wants (nth ds b) (option xs b)) && allBelow m (λ k. has above (suc k) ⇒ leb 1 (holders xs (suc k)))
+  -- "Its total is the sum of its bids"; that of its floors (#103) likewise
+  pub total-is : (bids : List (List ℕ)) (xs : List ℕ) → total bids xs ≡ sum (length bids) λ b. amount (row bids b) (option xs b)
+  pub floors-are : (floors xs : List ℕ) → floorTotal floors xs ≡ sum (length xs) λ b. amount floors (option xs b)
 
 -- of a sheet's path, which has u rounds raised and d lowered and closes at prices p
 pub record Rounds (s : Sheet) (u d : ℕ) (p : List ℕ) : Type 0 where

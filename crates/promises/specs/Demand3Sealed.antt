@@ -1,23 +1,24 @@
 -- Demand 3, of sealed letting: what holds of the close. Document 01, "What demand 3 speaks of", with the floors of document 02, #103 (a sheet without floors has
 -- floors of 0). Every field is a sentence by itself. Assumes nothing: these are statements, which `proofs/Demand3Sealed` proves.
-use Prim.Native.Nat.{ℕ, _+_, _-_, _*_, _/_, _%_, _^_, _≤_, _<_}
-use mathlib.Core.Bool.{true, not}
+use Prim.Native.Nat.{ℕ, suc, _+_, _-_, _*_, _/_, _%_, _^_, _≤_, _<_}
+use mathlib.Core.Bool.{true, not, cond}
 use mathlib.Core.List.{List, [], _∷_, _++_}
 use mathlib.Core.Option.{some}
 use mathlib.Core.Path.{_≡_}
-use lib.ListN.{length, getD, drop}
+use lib.Dec.{ltb}
+use lib.ListN.{length, getD, take, drop}
 use Rattle.sets.specs.Count.{allBelow}
 use Rattle.sets.specs.Bit.{has}
-use Rattle.sets.specs.Lists.{places}
+use Rattle.sets.specs.Lists.{tabulate, places}
 use Rattle.rule.specs.Sheet.{Sheet, amount, greatest, withinLimits}
 use Rattle.rule.specs.Excess.{overdemanded, weaklyUnderdemanded, aboveFloors}
 use Rattle.rule.specs.Round.{State, path, close}
 use Rattle.rule.specs.Assignment.{isAssignment, total, floorTotal}
-use Rattle.rule.specs.Equilibrium.{Below}
 use Rattle.rule.specs.Closing.{demandsAt, excessDemandAt, excessSupplyAt, FitsAt, assignmentAt}
 use Rattle.rule.specs.Gains.{gainsAt}
 use Rattle.rule.specs.FallingFirst.{fallingClose}
 use Rattle.digits.specs.Digits.{hex}
+use Rattle.digits.specs.Reading.{numberAt}
 use Rattle.lines.specs.Lines.{joined, numberLine, closingSheet, sealedSheet}
 use Rattle.lines.specs.Reading.{readClosing, readSealed}
 use Rattle.bids.specs.Lent.{sheetOf, sheetAbove}
@@ -30,21 +31,25 @@ use Rattle.sheet.specs.Close.{bidSheetOf, sheetRefusal, closedTo, answerOf}
 use Rattle.sheet.specs.Contents.{bidSheetRefusal}
 use Rattle.sheet.specs.Accepted.{sheetIn}
 
+-- prices p are nowhere above prices q
+abbrev pub NotAbove : List ℕ → List ℕ → Type 0
+NotAbove p q = (i : ℕ) → amount p i ≤ amount q i
+
 -- "Whole rents of 0 or more, also above 4,095, balance if in some naming each raker has something of their demand at them and every pan named to nobody has rent 0";
 -- with floors (#103) the rents are at or above them, and such a pan stands at its floor. Names that fit are `Demand2.Names`
 abbrev pub Balances : Sheet → List ℕ → Type 0
-Balances s q = Below (s .floors) q × ((xs : List ℕ) × FitsAt s q xs)
+Balances s q = NotAbove (s .floors) q × ((xs : List ℕ) × FitsAt s q xs)
 
 -- of a sheet whose path has u rounds raised and d lowered, is at prices t at the turn and closes at prices p
 pub record Close (s : Sheet) (u d : ℕ) (t p : List ℕ) : Type 0 where
   -- the closing rents balance, and are the least whole rents that do, also among rents above 4,095
   pub balance : Balances s p
-  pub least : (q : List ℕ) → Balances s q → Below p q
+  pub least : (q : List ℕ) → Balances s q → NotAbove p q
   -- they are the only ones from the floors up at which both sets are empty, and so (theorem 1 of the paper) no set is overdemanded and none weakly underdemanded
-  pub unique : (q : List ℕ) → length q ≡ s .items → Below (s .floors) q → excessDemandAt s q ≡ 0 → excessSupplyAt s q ≡ 0 → q ≡ p
+  pub unique : (q : List ℕ) → length q ≡ s .items → NotAbove (s .floors) q → excessDemandAt s q ≡ 0 → excessSupplyAt s q ≡ 0 → q ≡ p
   pub none-over : (allBelow (2 ^ (s .items)) λ x. not (overdemanded (s .items) (demandsAt s p) x)) ≡ true
   pub none-under : (allBelow (2 ^ (s .items)) λ x. not (weaklyUnderdemanded (s .items) (aboveFloors (s .items) (s .floors) p) (demandsAt s p) x)) ≡ true
-  pub only-there : (q : List ℕ) → length q ≡ s .items → Below (s .floors) q
+  pub only-there : (q : List ℕ) → length q ≡ s .items → NotAbove (s .floors) q
       → (allBelow (2 ^ (s .items)) λ x. not (overdemanded (s .items) (demandsAt s q) x)) ≡ true
       → (allBelow (2 ^ (s .items)) λ x. not (weaklyUnderdemanded (s .items) (aboveFloors (s .items) (s .floors) q) (demandsAt s q) x)) ≡ true → q ≡ p
   -- "Its total is the sum of its bids", less floors: no naming has a higher one than the names. By sums, as a total less floors may be below 0
@@ -56,9 +61,9 @@ pub record Close (s : Sheet) (u d : ℕ) (t p : List ℕ) : Type 0 where
   pub few-raised : u ≤ 4095
   pub few-lowered : d ≤ 4095
   -- the turn is the least vector from the start up at which no pan rises, and the close is nowhere above it
-  pub turn-above : Below (s .start) t
-  pub turn-least : (q : List ℕ) → Below (s .start) q → excessDemandAt s q ≡ 0 → Below t q
-  pub close-below : Below p t
+  pub turn-above : NotAbove (s .start) t
+  pub turn-least : (q : List ℕ) → NotAbove (s .start) q → excessDemandAt s q ≡ 0 → NotAbove t q
+  pub close-below : NotAbove p t
   -- no rent on the way is above 4,095 or below its floor, and none at 4,095 goes up: 17 meets no sheet
   pub range : (k i : ℕ) → amount (path s k .prices) i ≤ 4095
   pub above-floor : (k i : ℕ) → amount (s .floors) i ≤ amount (path s k .prices) i
@@ -83,6 +88,9 @@ outcomeOf s c =
 
 -- the sealed entries give it of the sheet that the lent numbers say, wherever no number turns them down; that sheet is within the limits
 pub record Outcomes : Type 0 where
+  -- "numbers, raker after raker"
+  pub sheet-is : (m n : ℕ) (start floors bids : List ℕ) → sheetAbove m n start floors bids
+      ≡ record { items = m; start = start; floors = floors; bids = tabulate n (λ b. take m (drop (b * m) bids)) 0 }
   pub within : (m n : ℕ) (start floors bids : List ℕ) → sealedAboveRefusal m n start floors bids ≡ 0 → withinLimits (sheetAbove m n start floors bids) ≡ true
   pub without-floors : (m n : ℕ) (start bids : List ℕ) → sealedRefusal m n start bids ≡ 0
       → sealedOf m n start bids ≡ outcomeOf (sheetOf m n start bids) (close (sheetOf m n start bids))
@@ -91,8 +99,12 @@ pub record Outcomes : Type 0 where
   pub falling-first : (m n : ℕ) (start floors bids : List ℕ) → sealedAboveRefusal m n start floors bids ≡ 0
       → fallingFirstOf m n start floors bids ≡ outcomeOf (sheetAbove m n start floors bids) (fallingClose (sheetAbove m n start floors bids))
 
--- "Sheets": bid sheet in, closing sheet out. `hex k x` is x in k hexadecimal digits, `joined k` so many of them one after the other, and byte 10, 0a, ends a line
+-- "Sheets": bid sheet in, closing sheet out. `joined k f` is f 0 to f (k − 1), one after the other; byte 10, 0a, ends a line
 pub record Sheets : Type 0 where
+  -- a number in k digits, "0 to 9 and a to f"; read back it is the same
+  pub no-digits : (x : ℕ) → hex 0 x ≡ []
+  pub last-digit : (k x : ℕ) → hex (suc k) x ≡ hex k (x / 16) ++ cond (ltb (x % 16) 10) (48 + x % 16) (87 + x % 16) ∷ []
+  pub digits-read : (k x : ℕ) → x < 16 ^ k → numberAt k (hex k x) 0 ≡ some x
   -- "Bid sheet: first line, pans and rakers as 2 digits each, then each starting rent as 4 digits; then one line a raker, in order, each bid as 4 digits. Nothing
   -- follows the last line"
   pub bid-sheet : (b : BidSheet) → bidSheet b

@@ -7,9 +7,9 @@ use Rattle.sets.specs.Count.{toNat}
 use Rattle.sets.specs.Bit.{has}
 use Rattle.rule.specs.Sheet.{Sheet, amount, greatest, withinLimits}
 use Rattle.rule.specs.Round.{raised, lowered, closed, close}
-use Rattle.rule.specs.Equilibrium.{Below}
 use Rattle.rule.specs.Closing.{excessDemandAt, excessSupplyAt, assignmentAt}
 use Rattle.rule.specs.FallingFirst.{fallingPath, fallingRoundOf, fallingClose}
+use Rattle.promises.specs.Demand3Sealed.{NotAbove}
 
 -- of a sheet whose path falling first has d rounds lowered and u raised, is at prices t at the turn and closes at prices p
 pub record Falls (s : Sheet) (d u : ℕ) (t p : List ℕ) : Type 0 where
@@ -42,9 +42,9 @@ pub record Falls (s : Sheet) (d u : ℕ) (t p : List ℕ) : Type 0 where
   pub few-lowered : d ≤ 4095
   pub few-raised : u ≤ 4095
   -- the turn is the greatest vector from the start down at which no pan falls, and the close is nowhere below it
-  pub turn-below : Below t (s .start)
-  pub turn-greatest : (q : List ℕ) → Below q (s .start) → excessSupplyAt s q ≡ 0 → Below q t
-  pub close-above : Below t p
+  pub turn-below : NotAbove t (s .start)
+  pub turn-greatest : (q : List ℕ) → NotAbove q (s .start) → excessSupplyAt s q ≡ 0 → NotAbove q t
+  pub close-above : NotAbove t p
   -- no rent on the way is above 4,095 or below its floor, and none at 4,095 goes up
   pub range : (k i : ℕ) → amount (fallingPath s k .prices) i ≤ 4095
   pub above-floor : (k i : ℕ) → amount (s .floors) i ≤ amount (fallingPath s k .prices) i

@@ -3,6 +3,7 @@ pub mod Demand1
 pub mod Demand2
 pub mod Demand3Sealed
 pub mod Demand3Live
+pub mod Text
 pub mod Cases
 pub mod Reasons
 pub mod Zeros

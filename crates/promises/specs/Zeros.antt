@@ -11,7 +11,6 @@ use Rattle.rule.specs.Demand.{best, Demand, demand, demands, wants, nth}
 use Rattle.rule.specs.Excess.{excessDemand, excessSupply, aboveFloors}
 use Rattle.rule.specs.Round.{rising, round, move, path, close}
 use Rattle.rule.specs.Assignment.{option, fits}
-use Rattle.rule.specs.Equilibrium.{Below}
 use Rattle.rule.specs.Closing.{excessDemandAt, excessSupplyAt, roundOf, assignmentAt}
 use Rattle.rule.specs.Reasons.{reasonOf, reasonAt}
 use Rattle.rule.specs.Former.{formerPath, formerRoundOf}
@@ -20,14 +19,14 @@ use Rattle.bids.specs.Refusal.{sealedAboveRefusal}
 use Rattle.auction.specs.Sealed.{sealedAboveOf, fallingFirstOf}
 use Rattle.lines.specs.Lines.{joined}
 use Rattle.reasons.specs.Sheets.{reasonLine, reasonSheet}
-use Rattle.promises.specs.Demand3Sealed.{Balances}
+use Rattle.promises.specs.Demand3Sealed.{NotAbove, Balances}
 
 -- the demands as they were
 abbrev pub formerDemandsAt : Sheet → List ℕ → List Demand
 formerDemandsAt s p = map (λ b. record { null = best (s .items) p b 0; items = setOf (s .items) (best (s .items) p b) }) (s .bids)
 
 abbrev pub FormerlyBalances : Sheet → List ℕ → Type 0
-FormerlyBalances s q = Below (s .floors) q × ((xs : List ℕ) × (fits (s .items) (aboveFloors (s .items) (s .floors) q) (formerDemandsAt s q) xs ≡ true))
+FormerlyBalances s q = NotAbove (s .floors) q × ((xs : List ℕ) × (fits (s .items) (aboveFloors (s .items) (s .floors) q) (formerDemandsAt s q) xs ≡ true))
 
 pub record Request102 : Type 0 where
   -- "a pan with bid 0 is never in a raker's demand, also at rent 0", at any prices; and a demand is never empty
