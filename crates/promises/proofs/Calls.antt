@@ -14,14 +14,14 @@ use Rattle.rule.specs.FallingFirst.{fallingClose}
 use Rattle.bids.specs.Lent.{sheetOf, sheetAbove}
 use Rattle.least.specs.Least as lower
 use Rattle.auction.specs.Sealed.{closed, sealedOf, sealedAboveOf, fallingFirstOf, Promised, PromisedFalling}
-use Rattle.auction.proofs.Sealing.{above-closed, falling-number}
+use Rattle.auction.proofs.Sealing as sealing
 use Rattle.auction.specs.declared.Closing.{Closing}
 use Rattle.sheet.specs.Close.{byNumber}
 use Rattle.dewgneiss.specs.Lent.{lentRefusal, lentAboveRefusal}
 use Rattle.live.specs.declared.Auction.{Auction}
 use Rattle.bench_exports.specs.Lent as bench
 use Rattle.dewgneiss.specs.Back as lists
-use Rattle.dewgneiss.proofs.Back.{sealed-back, above-back, falling-back}
+use Rattle.dewgneiss.proofs.Back as back
 use Rattle.promises.specs.Calls.{Stands, Leaves, Least, InLists}
 use Rattle.promises.specs.Matching.{Covers, MatchOrNone}
 use Rattle.promises.proofs.Gains.{gaining}
@@ -56,7 +56,7 @@ stands-falling s r p =
 -- the outcome of rising first where falling first is not turned down
 pub rising-too : (m n : ℕ) (start floors bids : List ℕ) (r : Closing) → r ≡ fallingFirstOf m n start floors bids → r .refusal ≡ 0
     → closed (sheetAbove m n start floors bids) ≡ sealedAboveOf m n start floors bids
-rising-too m n start floors bids r e z = above-closed m n start floors bids (sym (falling-number m n start floors bids) ∙ ap (λ (x : Closing). x .refusal) (sym e) ∙ z)
+rising-too m n start floors bids r e z = sealing.above-closed m n start floors bids (sym (sealing.falling-number m n start floors bids) ∙ ap (λ (x : Closing). x .refusal) (sym e) ∙ z)
 
 pub least : (m : ℕ) (bids : List (List ℕ)) (base p : List ℕ) → lower.Least m bids base p → Least m bids base p
 unfolding Below
@@ -98,7 +98,7 @@ module _ (m n : ℕ) (start floors bids rounds prices options gains rounds′ pr
   leaves-sealed e er ep eo eg =
       leaves (sheetOf m n start bids) (close (sheetOf m n start bids)) (sealedOf m n start bids) m n why rounds prices options gains rounds′ prices′ options′ gains′ er ep eo eg
       λ z.
-      let b = sealed-back m n start bids rounds prices options gains rounds′ prices′ options′ gains′ why e er ep eo eg z in
+      let b = back.sealed-back m n start bids rounds prices options gains rounds′ prices′ options′ gains′ why e er ep eo eg z in
       subst (λ (t : State). lists.LentBack (sheetOf m n start bids) (t .ups) (t .downs) (t .prices) rounds′ prices′ options′ gains′) (sym (b .0 .closing .close-is)) (b .1)
 
   pub leaves-above : why ≡ lentAboveRefusal m n start floors bids rounds prices options gains
@@ -110,7 +110,7 @@ module _ (m n : ℕ) (start floors bids rounds prices options gains rounds′ pr
   leaves-above e er ep eo eg =
       leaves (sheetAbove m n start floors bids) (close (sheetAbove m n start floors bids)) (sealedAboveOf m n start floors bids) m n why rounds prices options gains rounds′ prices′ options′ gains′ er ep eo eg
       λ z.
-      let b = above-back m n start floors bids rounds prices options gains rounds′ prices′ options′ gains′ why e er ep eo eg z in
+      let b = back.above-back m n start floors bids rounds prices options gains rounds′ prices′ options′ gains′ why e er ep eo eg z in
       subst (λ (t : State). lists.LentBack (sheetAbove m n start floors bids) (t .ups) (t .downs) (t .prices) rounds′ prices′ options′ gains′) (sym (b .0 .closing .close-is)) (b .1)
 
   pub leaves-falling : why ≡ lentAboveRefusal m n start floors bids rounds prices options gains
@@ -123,7 +123,7 @@ module _ (m n : ℕ) (start floors bids rounds prices options gains rounds′ pr
   leaves-falling e er ep eo eg =
       leaves (sheetAbove m n start floors bids) (fallingClose (sheetAbove m n start floors bids)) (fallingFirstOf m n start floors bids) m n why rounds prices options gains rounds′ prices′ options′ gains′ er ep eo eg
       λ z.
-      let b = falling-back m n start floors bids rounds prices options gains rounds′ prices′ options′ gains′ why e er ep eo eg z in
+      let b = back.falling-back m n start floors bids rounds prices options gains rounds′ prices′ options′ gains′ why e er ep eo eg z in
       subst (λ (t : State). lists.LentBack (sheetAbove m n start floors bids) (t .ups) (t .downs) (t .prices) rounds′ prices′ options′ gains′) (sym (b .0 .closing .close-is)) (b .1)
 
 -- ---- a record in lent lists

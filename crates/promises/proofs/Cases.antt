@@ -15,7 +15,7 @@ use Rattle.live.specs.Tables.{openTables}
 use Rattle.live.specs.declared.Auction.{Auction}
 use Rattle.agreement.specs.Calls.{reporting, ending, Ran, run}
 use Rattle.agreement.specs.Agreement.{openedWith}
-use Rattle.agreement.proofs.Examples.{first-report-answers, first-report-record, sixteen-anew, seventeen-answers}
+use Rattle.agreement.proofs.Examples as examples
 use Rattle.promises.specs.Cases.{Also, Reports, Cases}
 use Rattle.promises.proofs.Lettings.{lettings}
 use Rattle.promises.proofs.Example6.{example6}
@@ -42,12 +42,12 @@ reports : Reports
 unfolding openedWith openTables
 reports =
     record {
-      sixteen-nineteen = λ lent fit. first-report-answers lent fit;
+      sixteen-nineteen = λ lent fit. examples.first-report-answers lent fit;
       sixteen-anew = λ lent fit.
           ap (λ (r : Auction). run (record { auction = r; tables = flatAll 2 λ k. opening 1 }) (reporting 1 (saying false 1) ∷ reporting 2 (saying false 1) ∷ ending ∷ []) .answers)
-          (first-report-record lent fit)
-          ∙ ap (λ (r : Ran). r .answers) sixteen-anew;
-      seventeen-nineteen = λ lent fit. seventeen-answers lent fit;
+          (examples.first-report-record lent fit)
+          ∙ ap (λ (r : Ran). r .answers) examples.sixteen-anew;
+      seventeen-nineteen = λ lent fit. examples.seventeen-answers lent fit;
     }
 
 pub cases : Cases

@@ -10,7 +10,7 @@ use Rattle.lines.specs.Lines.{writtenTo}
 use Rattle.bids.specs.Lent.{lineOf, sheetOf, sheetAbove}
 use Rattle.bids.specs.Refusal.{sealedRefusal, sealedAboveRefusal}
 use Rattle.bids.specs.Line.{lineRefusal, shown, lineShown}
-use Rattle.bids.proofs.Showing.{line-of, shown-there}
+use Rattle.bids.proofs.Showing as showing
 use Rattle.auction.specs.Sealed.{refused, closed, fallingClosed, outcome, sealedOf, sealedAboveOf, fallingFirstOf}
 use Rattle.sheet.specs.Close.{sheetRefusal, byNumber, closedTo, closingOf, bidSheetOf}
 use Rattle.sheet.specs.Contents.{bidSheetRefusal, contents, contentsOf}
@@ -20,7 +20,7 @@ use Rattle.live.specs.Tables.{badTables, unexplainedAt, anyUnexplained}
 use Rattle.live.specs.Calls.{atTop, openNumber, openAboveNumber, openAuction, openAbove, openedBy, unopened, filledBy, zeros, reportNumber, clearNumber, endNumber}
 use Rattle.live.specs.Reading.{readNumber}
 use Rattle.agreement.specs.Agreement.{numberOf}
-use Rattle.agreement.proofs.Always.{as-before, bytes-before, zeros-eleven}
+use Rattle.agreement.proofs.Always as always
 use Rattle.promises.specs.Demand1.{Conditions, Order, Refused, Demand1}
 
 conditions : Conditions
@@ -83,8 +83,8 @@ turned-down =
       number-told = λ x. refl;
       number-refused = λ x. refl;
       number-shown = λ x out. refl;
-      as-before = as-before;
-      read-before = bytes-before;
+      as-before = always.as-before;
+      read-before = always.bytes-before;
       lent-before = lent-before;
       sheet-before = sheet-before;
       zeros-sealed = λ m n start bids why e. ap (λ (x : ℕ). outcome x (closed (sheetOf m n start bids))) e;
@@ -93,9 +93,9 @@ turned-down =
       zeros-contents = λ bytes why e. ap (λ (x : ℕ). contents x (bidSheetOf bytes)) e;
       zeros-open = λ m n start lent why e. ap (λ (x : ℕ). openedBy x m n start (replicate m 0)) e;
       zeros-open-above = λ m n start floors lent why e. ap (λ (x : ℕ). openedBy x m n start floors) e;
-      zeros-eleven = zeros-eleven;
-      line-shown = λ m n b bids e. line-of m n b bids e;
-      line-there = shown-there;
+      zeros-eleven = always.zeros-eleven;
+      line-shown = λ m n b bids e. showing.line-of m n b bids e;
+      line-there = showing.shown-there;
       line-refused = λ m n b bids why e. ap (λ (x : ℕ). shown x (lineOf m bids (b - 1))) e;
     }
 

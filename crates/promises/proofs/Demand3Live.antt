@@ -21,9 +21,9 @@ use Rattle.agreement.specs.Machine.{Machine, at, threeLines}
 use Rattle.agreement.specs.Agreement as claim
 use Rattle.agreement.specs.Agreement.{openedWith, openingOf, liveRun, standsFor, tablesOf, allRounds, roundsOf, numberOf, never}
 use Rattle.agreement.specs.Sheets.{gainsLine}
-use Rattle.agreement.proofs.Agreement.{agreement}
+use Rattle.agreement.proofs.Agreement as agreeing
 use Rattle.agreement.proofs.Always as always
-use Rattle.agreement.proofs.Sheets.{closes-sheet}
+use Rattle.agreement.proofs.Sheets as sheets
 use Rattle.promises.specs.Demand3Live.{lines, given, Without, ClosesAs, Fit, Agrees, Demand3Live}
 
 -- the rounds of the answers, and a number that is not among them, are as `agreement` has them
@@ -102,19 +102,19 @@ sealed-lines : (bytes out : List ℕ) → sheetRefusal bytes (length out) ≡ 0
     → closedTo bytes out ≡ writtenTo out (lines (sheetIn bytes) ++ amountsLine (length (sheetIn bytes .bids)) (gainsAt (sheetIn bytes) (close (sheetIn bytes) .prices)))
 unfolding threeLines gainsLine
 sealed-lines bytes out e =
-    closes-sheet bytes (length out) e .close-bytes out
+    sheets.closes-sheet bytes (length out) e .close-bytes out
     ∙ ap (λ (x : ℕ). byNumber x (writtenTo out (threeLines (sheetIn bytes) ++ gainsLine bytes)) out) e
 
 pub demand3-live : Demand3Live
 unfolding openAuction openAbove openedWith
 demand3-live =
     record {
-      agreement = λ s e few lent fit calls theirs t q. agrees s lent calls theirs t (agreement s e few lent fit calls theirs t q);
+      agreement = λ s e few lent fit calls theirs t q. agrees s lent calls theirs t (agreeing.agreement s e few lent fit calls theirs t q);
       fit-opened = λ m n start lent e. fit _ (always.open-sound m n start lent (opened-number _ m n start (replicate m 0) e));
       fit-opened-above = λ m n start floors lent e. fit _ (always.above-sound m n start floors lent (opened-number _ m n start floors e));
       fit-called = λ h f c. fit _ (always.keeps h (sound h f) c);
       fit-after = λ h f calls. fit _ (always.keeps-all h (sound h f) calls);
       never-eleven = λ h f calls. without 11 _ (always.never-eleven h (sound h f) calls);
-      sealed-number = λ bytes room e. closes-sheet bytes room e .close-number;
+      sealed-number = λ bytes room e. sheets.closes-sheet bytes room e .close-number;
       sealed-lines = sealed-lines;
     }

@@ -9,26 +9,26 @@ use Rattle.rule.specs.Sheet.{Sheet, withinLimits}
 use Rattle.rule.specs.Round.{State, path, close}
 use Rattle.rule.specs.Equilibrium.{Below}
 use Rattle.rule.specs.Closing.{assignmentAt, Closing}
-use Rattle.rule.proofs.EmptySets.{at-close, only-at-close}
+use Rattle.rule.proofs.EmptySets as empty
 use Rattle.rule.proofs.Closing.{closing}
 use Rattle.rule.specs.Gains.{gainsAt}
 use Rattle.digits.specs.Digits.{digit, hex}
 use Rattle.digits.proofs.Stands.{itself}
-use Rattle.digits.proofs.Numbers.{number-at}
+use Rattle.digits.proofs.Numbers as numbers
 use Rattle.lines.specs.Lines.{newline, numberText, numberLine, amountsLine, closingSheet, sealedSheet, writtenTo}
 use Rattle.bids.specs.Lent.{lineOf, rowsOf, sheetAbove}
-use Rattle.bids.proofs.Limits.{accepted-within}
+use Rattle.bids.proofs.Limits as limits
 use Rattle.auction.specs.Sealed.{closed, fallingClosed}
-use Rattle.auction.proofs.Sealing.{above-closed, falling-closed, sealed-closed}
-use Rattle.lines.proofs.ReadBack.{read-back, sealed-back}
+use Rattle.auction.proofs.Sealing as sealing
+use Rattle.lines.proofs.ReadBack as back
 use Rattle.sheet.specs.Writing.{bidLine, bidSheet}
 use Rattle.sheet.specs.Close.{bidSheetOf, sheetRefusal, byNumber, closingOf, answerOf}
 use Rattle.sheet.specs.Accepted.{sheetIn, sheetOfClosing}
-use Rattle.sheet.proofs.ReadWritten.{read-written, written-read}
-use Rattle.sheet.proofs.Sixes.{written-no-six, read-no-six, not-six-read}
-use Rattle.sheet.proofs.Room.{no-three}
-use Rattle.sheet.proofs.Reading.{same-number}
-use Rattle.sheet.proofs.Accepted.{promised, accepted-sheet, accepted-answer}
+use Rattle.sheet.proofs.ReadWritten as written
+use Rattle.sheet.proofs.Sixes as sixes
+use Rattle.sheet.proofs.Room as room
+use Rattle.sheet.proofs.Reading as reading
+use Rattle.sheet.proofs.Accepted as accepted
 use Rattle.promises.specs.Demand3Sealed.{Close, closingSheetOf, Outcomes, Sheets, Demand3Sealed}
 use Rattle.promises.proofs.Demand2 as rounds
 
@@ -39,9 +39,9 @@ of-closing s c =
       balance = (c .balance .from-floors, (c .balance .assigned, c .balance .balances));
       least = λ q e. c .least q (record { from-floors = e .0; assigned = e .1 .0; balances = e .1 .1 });
       unique = c .unique;
-      none-over = at-close s c .0;
-      none-under = at-close s c .1;
-      only-there = only-at-close s c;
+      none-over = empty.at-close s c .0;
+      none-under = empty.at-close s c .1;
+      only-there = empty.only-at-close s c;
       highest = c .highest;
       largest-rise = c .largest-rise;
       largest-fall = c .largest-fall;
@@ -72,10 +72,10 @@ unfolding closed fallingClosed lineOf rowsOf sheetAbove
 outcomes =
     record {
       sheet-is = λ m n start floors bids. refl;
-      within = λ m n start floors bids e. accepted-within m n start floors bids e .1;
-      without-floors = λ m n start bids e. sym (sealed-closed m n start bids e);
-      with-floors = λ m n start floors bids e. sym (above-closed m n start floors bids e);
-      falling-first = λ m n start floors bids e. sym (falling-closed m n start floors bids e);
+      within = λ m n start floors bids e. limits.accepted-within m n start floors bids e .1;
+      without-floors = λ m n start bids e. sym (sealing.sealed-closed m n start bids e);
+      with-floors = λ m n start floors bids e. sym (sealing.above-closed m n start floors bids e);
+      falling-first = λ m n start floors bids e. sym (sealing.falling-closed m n start floors bids e);
     }
 
 -- under a number its line is printed, where there is room for that
@@ -95,24 +95,24 @@ sheets =
     record {
       no-digits = λ x. refl;
       last-digit = λ k x. refl;
-      digits-read = λ k x l. number-at (hex k x) k 0 x l (itself (hex k x));
+      digits-read = λ k x l. numbers.number-at (hex k x) k 0 x l (itself (hex k x));
       bid-sheet = λ b. refl;
-      read-written = read-written;
-      written-read = written-read;
-      written-no-six = written-no-six;
-      read-no-six = read-no-six;
-      not-six-read = λ bytes room a b c. not-six-read bytes room a b c .0;
+      read-written = written.read-written;
+      written-read = written.written-read;
+      written-no-six = sixes.written-no-six;
+      read-no-six = sixes.read-no-six;
+      not-six-read = λ bytes room a b c. sixes.not-six-read bytes room a b c .0;
       says = λ bytes. refl;
       three-lines = λ m n u d p xs. refl;
       number-line = λ x. refl;
-      read-back = read-back;
-      sealed-back = sealed-back;
-      within = λ bytes room e. promised bytes room e .within;
-      written = λ bytes out e. let a = accepted-sheet bytes out e in a .written ∙ ap (writtenTo out) (closing-sheet (sheetIn bytes) (a .promised .closing));
-      printed = λ bytes room e. accepted-answer bytes room e ∙ closing-sheet (sheetIn bytes) (promised bytes room e .closing);
+      read-back = back.read-back;
+      sealed-back = back.sealed-back;
+      within = λ bytes room e. accepted.promised bytes room e .within;
+      written = λ bytes out e. let a = accepted.accepted-sheet bytes out e in a .written ∙ ap (writtenTo out) (closing-sheet (sheetIn bytes) (a .promised .closing));
+      printed = λ bytes room e. accepted.accepted-answer bytes room e ∙ closing-sheet (sheetIn bytes) (accepted.promised bytes room e .closing);
       number-printed = number-printed;
-      enough = no-three;
-      same-number = same-number;
+      enough = room.no-three;
+      same-number = reading.same-number;
     }
 
 pub demand3 : Demand3Sealed

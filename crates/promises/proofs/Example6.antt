@@ -17,7 +17,7 @@ use Rattle.rule.specs.Assignment.{option}
 use Rattle.rule.specs.Closing.{assignmentAt}
 use Rattle.rule.specs.Gains.{gain, gainsAt}
 use Rattle.rule.specs.Reasons.{biddersWith, reasonOf, reasonAt, roundCount}
-use Rattle.rule.specs.Refusal.{on, first, badItems, badBidders, anyOver}
+use Rattle.rule.specs.Refusal.{first, badItems, badBidders, anyOver}
 use Rattle.rule.proofs.Refusal.{passed, first-nil}
 use Rattle.digits.specs.Digits.{digit, hex}
 use Rattle.digits.specs.Reading.{digitValue, digitAt, numberAt}
@@ -25,7 +25,7 @@ use Rattle.lines.specs.Lines.{newline, joined, amountsLine, closingSheet, seale
 use Rattle.lines.specs.Reading.{numbersAt, endsAt, lineAt}
 use Rattle.bids.specs.Lent.{lineOf, rowsOf, sheetAbove, sheetOf}
 use Rattle.sheet.specs.BidSheet.{itemsIn, biddersIn, bidsAt, readSheet}
-use Rattle.sheet.specs.Close.{itemsOf, biddersOf, bidSheetOf, sheetRefusal, answerOf}
+use Rattle.sheet.specs.Close.{itemsOf, biddersOf, bidSheetOf, sheetRefusal}
 use Rattle.sheet.specs.Contents.{bidSheetRefusal}
 use Rattle.sheet.specs.Accepted.{sheetIn}
 use Rattle.sheet.proofs.Accepted.{by-room}

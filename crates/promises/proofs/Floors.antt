@@ -17,9 +17,9 @@ use Rattle.rule.proofs.AtPrices.{demands-length}
 use Rattle.rule.proofs.Limits.{aboveFloors-is}
 use Rattle.rule.proofs.Fitting.{fits-use}
 use Rattle.rule.proofs.Closing.{closing}
-use Rattle.rule.proofs.NoFloors.{above-zero, unique-of-all, highest-of-bids}
+use Rattle.rule.proofs.NoFloors as no-floors
 use Rattle.bids.specs.Lent.{sheetOf, sheetAbove}
-use Rattle.bids.proofs.Limits.{without-floors}
+use Rattle.bids.proofs.Limits as limits
 use Rattle.auction.proofs.Sealing as sealed
 use Rattle.live.proofs.Opening as live
 use Rattle.sheet.specs.Accepted.{sheetIn}
@@ -48,12 +48,12 @@ request103 =
       above = aboveFloors-is;
       unlet = unlet;
       old-sheets = λ m n start bids. refl;
-      old-number = λ m n start bids. sym (without-floors m n start bids);
+      old-number = λ m n start bids. sym (limits.without-floors m n start bids);
       old-sealed = λ m n start bids. sym (sealed.zero-floors m n start bids);
       old-open = λ m n start ts. sym (live.zero-floors m n start ts);
       bid-sheets = λ bytes. refl;
-      above-zero = above-zero;
-      unique-of-all = λ s e z. at-close s (closing s e) (λ u d p. (q : List ℕ) → length q ≡ s .items → excessDemandAt s q ≡ 0 → excessSupplyAt s q ≡ 0 → q ≡ p) (unique-of-all s (closing s e) z);
+      above-zero = no-floors.above-zero;
+      unique-of-all = λ s e z. at-close s (closing s e) (λ u d p. (q : List ℕ) → length q ≡ s .items → excessDemandAt s q ≡ 0 → excessSupplyAt s q ≡ 0 → q ≡ p) (no-floors.unique-of-all s (closing s e) z);
       highest-of-bids = λ s e z. at-close s (closing s e)
-          (λ u d p. (xs : List ℕ) → isAssignment (s .items) (length (s .bids)) xs ≡ true → total (s .bids) xs ≤ total (s .bids) (assignmentAt s p)) (highest-of-bids s (closing s e) z);
+          (λ u d p. (xs : List ℕ) → isAssignment (s .items) (length (s .bids)) xs ≡ true → total (s .bids) xs ≤ total (s .bids) (assignmentAt s p)) (no-floors.highest-of-bids s (closing s e) z);
     }

@@ -7,14 +7,14 @@ use mathlib.Core.List.{List}
 use lib.ListN.{length, replicate}
 use Rattle.rule.specs.Refusal.{badBidders, badLiveBidders}
 use Rattle.rule.proofs.Refusal.{range-in, over-range}
-use Rattle.bids.proofs.Limits.{within-accepted, accepted-within}
+use Rattle.bids.proofs.Limits as limits
 use Rattle.live.specs.Auction.{wellFormed}
 use Rattle.live.specs.declared.Auction.{Auction}
 use Rattle.live.proofs.Formed.{formed}
-use Rattle.live.proofs.Opening.{two, number-zero}
+use Rattle.live.proofs.Opening as opening
 use Rattle.live.specs.Calls.{openedBy, unopened, openAbove}
 use Rattle.agreement.specs.Agreement.{openingOf}
-use Rattle.agreement.proofs.Agreement.{too-many}
+use Rattle.agreement.proofs.Agreement as agreeing
 use Rattle.promises.specs.Forty.{Request108}
 
 more : (n : ℕ) → 40 < n → badLiveBidders n ≡ true
@@ -39,12 +39,12 @@ unfolding badBidders badLiveBidders openingOf openAbove
 request108 =
     record {
       live = λ n l h. range-in 40 n l h;
-      opening = λ m n start lent e l. sym (number-zero m n start lent) ∙ two m n start (replicate m 0) lent e (more n l);
-      opening-above = λ m n start floors lent e l. two m n start floors lent e (more n l);
-      too-many = λ s e l lent. opened-by _ (s .items) (length (s .bids)) (s .start) (s .floors) 2 (too-many s e l lent);
+      opening = λ m n start lent e l. sym (opening.number-zero m n start lent) ∙ opening.two m n start (replicate m 0) lent e (more n l);
+      opening-above = λ m n start floors lent e l. opening.two m n start floors lent e (more n l);
+      too-many = λ s e l lent. opened-by _ (s .items) (length (s .bids)) (s .start) (s .floors) 2 (agreeing.too-many s e l lent);
       records = malformed;
       sealed = λ n l h. range-in 64 n l h;
       sealed-more = λ n l. over-range 64 n (omega (arith, l)) l;
-      accepted = within-accepted;
-      within = λ m n start floors bids e. accepted-within m n start floors bids e .1;
+      accepted = limits.within-accepted;
+      within = λ m n start floors bids e. limits.accepted-within m n start floors bids e .1;
     }

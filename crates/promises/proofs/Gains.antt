@@ -9,10 +9,10 @@ use Rattle.rule.specs.Round.{State, close}
 use Rattle.rule.specs.Closing.{FitsAt, assignmentAt}
 use Rattle.rule.specs.Gains.{Gains}
 use Rattle.rule.proofs.Closing.{closing}
-use Rattle.rule.proofs.Highest.{surplus-most, surplus-some, surplus-best, best-surplus}
-use Rattle.rule.proofs.Gains.{gains, exact-most}
+use Rattle.rule.proofs.Highest as highest
+use Rattle.rule.proofs.Gains as gains
 use Rattle.lines.specs.Lines.{newline, amountsLine, sealedSheet, closingLength, sealedLength}
-use Rattle.lines.proofs.Lengths.{closing-length, sealed-length}
+use Rattle.lines.proofs.Lengths as lengths
 use Rattle.promises.specs.Gains.{Gaining, Request106}
 
 pub gaining : (s : Sheet) (p : List ℕ) → Gains s p → Gaining s p
@@ -23,21 +23,21 @@ fitting : (s : Sheet) → withinLimits s ≡ true → FitsAt s (close s .prices)
 fitting s e = let c = closing s e in subst (λ (t : State). FitsAt s (t .prices) (assignmentAt s (t .prices))) (sym (c .close-is)) (c .fitting)
 
 at : (s : Sheet) → withinLimits s ≡ true → Gains s (close s .prices)
-at s e = gains s (close s .prices) (fitting s e)
+at s e = gains.gains s (close s .prices) (fitting s e)
 
 pub request106 : Request106
 unfolding newline amountsLine sealedSheet closingLength sealedLength
 request106 =
     record {
-      highest = surplus-most;
-      reached = surplus-some;
-      best-if = surplus-best;
-      best-only-if = best-surplus;
+      highest = highest.surplus-most;
+      reached = highest.surplus-some;
+      best-if = highest.surplus-best;
+      best-only-if = highest.best-surplus;
       gaining = λ s e. gaining s (close s .prices) (at s e);
-      only = λ s e. exact-most s (close s .prices) (fitting s e) (at s e);
+      only = λ s e. gains.exact-most s (close s .prices) (fitting s e) (at s e);
       fourth = λ m n ups downs prices options gains. refl;
-      longer = sealed-length;
-      three = closing-length;
+      longer = lengths.sealed-length;
+      three = lengths.closing-length;
       sealed-long = λ m n. refl;
       closing-long = λ m n. refl;
     }

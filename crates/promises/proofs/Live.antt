@@ -12,12 +12,11 @@ use Rattle.rule.proofs.Refusal.{none}
 use Rattle.live.specs.Auction.{wellFormed, missing, risingSet, fallingSet}
 use Rattle.live.specs.Tables.{badTables, tablesFit, anyUnexplained}
 use Rattle.live.specs.Calls.{isClosed, isFalling, opened, openedBy, openAbove, withReport, report, cleared, clear, roundBy, settled, Ending, gives, refused, endNumber, endAnswer, endNext}
-use Rattle.live.specs.Reading.{namesOf, sheetOf, readNumber, readBytes}
+use Rattle.live.specs.Reading.{namesOf, sheetOf, readBytes}
 use Rattle.live.specs.declared.Auction.{Auction}
 use Rattle.live.specs.declared.Phase.{Phase}
 use Rattle.live.specs.declared.Phase.the-variants.{Rising, Falling, Closed}
-use Rattle.live.specs.declared.Reply.{Reply}
-use Rattle.live.proofs.Ending.{round-raised, round-lowered, round-closed}
+use Rattle.live.proofs.Ending as ending
 use Rattle.lines.specs.Lines.{writtenTo}
 use Rattle.promises.specs.Demand2.{Live}
 
@@ -67,13 +66,13 @@ module _ (r : Auction) (ts : List ℤ) where
       go Closed q x y = cc
 
   raises : endNumber r ts ≡ 0 → (risingSet r ≡ 0 → ⊥) → endAnswer r ts ≡ gives (raised (risingSet r))
-  raises e ne = gives-round e ∙ ap gives (round-raised r (risingSet r) refl ne (rising e ne))
+  raises e ne = gives-round e ∙ ap gives (ending.round-raised r (risingSet r) refl ne (rising e ne))
 
   lowers : endNumber r ts ≡ 0 → risingSet r ≡ 0 → (fallingSet r ≡ 0 → ⊥) → endAnswer r ts ≡ gives (lowered (fallingSet r))
-  lowers e z ne = gives-round e ∙ ap gives (round-lowered r z (fallingSet r) refl ne)
+  lowers e z ne = gives-round e ∙ ap gives (ending.round-lowered r z (fallingSet r) refl ne)
 
   closes-if : endNumber r ts ≡ 0 → risingSet r ≡ 0 → fallingSet r ≡ 0 → endAnswer r ts ≡ gives closed
-  closes-if e z q = gives-round e ∙ ap gives (round-closed r z (fallingSet r) refl q)
+  closes-if e z q = gives-round e ∙ ap gives (ending.round-closed r z (fallingSet r) refl q)
 
   closes-only-if : endAnswer r ts ≡ gives closed → (risingSet r ≡ 0) × (fallingSet r ≡ 0)
   closes-only-if e = let z = no-rise (risingSet r) refl in (z, no-fall z (fallingSet r) refl)

@@ -5,10 +5,10 @@ use Rattle.rule.specs.Round.{raised, lowered, path}
 use Rattle.rule.specs.Closing.{demandsAt, excessDemandAt, excessSupplyAt}
 use Rattle.rule.specs.Reasons.{reasonOf, reasonAt, roundCount, Reason, Justified}
 use Rattle.rule.proofs.Closing.{closing}
-use Rattle.rule.proofs.Reasons.{path-justified, falling-path-justified, rise-reason, fall-reason, no-reason}
-use Rattle.reasons.proofs.Answers.{by-line, accepted-lines, whole, same-answer}
-use Rattle.reasons.proofs.ReadBack.{read-accepted}
-use Rattle.live.proofs.Reasons.{moved-justified}
+use Rattle.rule.proofs.Reasons as rounds
+use Rattle.reasons.proofs.Answers as answers
+use Rattle.reasons.proofs.ReadBack as back
+use Rattle.live.proofs.Reasons as live
 use Rattle.promises.specs.Reasons.{Right, Request101}
 use Rattle.promises.proofs.Demand2.{at-close}
 
@@ -22,17 +22,17 @@ request101 =
       of-a-rise = λ m ds x. refl;
       of-a-fall = λ m ds x. refl;
       rises = λ s e. at-close s (closing s e) (λ u d p. (k : ℕ) → k < u → reasonAt s k ≡ reasonOf (s .items) (demandsAt s (path s k .prices)) (raised (excessDemandAt s (path s k .prices))))
-          (rise-reason s (closing s e));
+          (rounds.rise-reason s (closing s e));
       falls = λ s e. at-close s (closing s e)
           (λ u d p. (k : ℕ) → k < d → reasonAt s (u + k) ≡ reasonOf (s .items) (demandsAt s (path s (u + k) .prices)) (lowered (excessSupplyAt s (path s (u + k) .prices))))
-          (fall-reason s (closing s e));
-      no-more = λ s e. at-close s (closing s e) (λ u d p. (k : ℕ) → reasonAt s (u + d + k) ≡ record { kind = 0; items = 0; bidders = 0 }) (no-reason s (closing s e));
-      lines = λ bytes e k l. let x = read-accepted bytes e k l in (x .number-is, x .kind, x .items, x .bidders, x .ends);
-      as-many = accepted-lines;
-      turned-down = by-line;
-      room = whole;
-      past = same-answer;
-      right = λ s k. right _ _ _ (path-justified s k);
-      right-falling = λ s k. right _ _ _ (falling-path-justified s k);
-      right-live = λ r ts x e. right _ _ _ (moved-justified r ts x e);
+          (rounds.fall-reason s (closing s e));
+      no-more = λ s e. at-close s (closing s e) (λ u d p. (k : ℕ) → reasonAt s (u + d + k) ≡ record { kind = 0; items = 0; bidders = 0 }) (rounds.no-reason s (closing s e));
+      lines = λ bytes e k l. let x = back.read-accepted bytes e k l in (x .number-is, x .kind, x .items, x .bidders, x .ends);
+      as-many = answers.accepted-lines;
+      turned-down = answers.by-line;
+      room = answers.whole;
+      past = answers.same-answer;
+      right = λ s k. right _ _ _ (rounds.path-justified s k);
+      right-falling = λ s k. right _ _ _ (rounds.falling-path-justified s k);
+      right-live = λ r ts x e. right _ _ _ (live.moved-justified r ts x e);
     }

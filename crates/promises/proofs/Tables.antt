@@ -10,17 +10,17 @@ use Rattle.rule.specs.Sheet.{Sheet}
 use Rattle.rule.specs.Round.{Round, raised, lowered, closed}
 use Rattle.differences.specs.Table.{meets, largestTable, reached, opening, tableFits}
 use Rattle.differences.specs.Allowed.{explains, allows, narrowed, unexplained}
-use Rattle.differences.proofs.Laws.{opening-met, narrow-meets}
+use Rattle.differences.proofs.Laws as laws
 use Rattle.live.specs.Tables.{openTables, narrowedTables}
 use Rattle.live.specs.Calls.{Ending, gives, refused, endNumber, endAnswer, endTables, narrowedBy, roundBy}
 use Rattle.live.specs.declared.Auction.{Auction}
-use Rattle.live.proofs.Opening.{fills}
-use Rattle.live.proofs.Explaining.{no-seventeen}
+use Rattle.live.proofs.Opening as opens
+use Rattle.live.proofs.Explaining as explaining
 use Rattle.agreement.specs.Calls.{Call, Answer, told, ended, shown, call, run}
 use Rattle.agreement.specs.Agreement.{openedWith}
 use Rattle.agreement.specs.Explained.{ExplainsStanding, neverAtEnd}
 use Rattle.agreement.specs.Explained as claim
-use Rattle.agreement.proofs.Coherent.{coherent}
+use Rattle.agreement.proofs.Coherent as lists
 use Rattle.promises.specs.Tables.{WithoutAtEnd, TableLaws, Lent, Explains, Coherent, Request107}
 use Rattle.promises.specs.Demand3Live.{afterOpening}
 use Rattle.promises.proofs.Live.{no-round, given-by}
@@ -33,9 +33,9 @@ tables =
       meets-is = λ m t b. refl;
       largest-is = λ m f. refl;
       opening-is = λ m. refl;
-      opening-met = opening-met;
+      opening-met = laws.opening-met;
       narrowed-is = λ m t p d. refl;
-      narrowed-met = narrow-meets;
+      narrowed-met = laws.narrow-meets;
       fits-is = λ m t. refl;
       nineteen-is = λ m t p d. refl;
     }
@@ -58,7 +58,7 @@ lent : Lent
 unfolding call openTables narrowedBy narrowedTables
 lent =
     record {
-      filled = λ m n start floors ts e. fills m n start floors ts e;
+      filled = λ m n start floors ts e. opens.fills m n start floors ts e;
       by-report = λ h b d. refl;
       by-clear = λ h. refl;
       by-read = λ h out. refl;
@@ -122,6 +122,6 @@ request107 =
     record {
       tables = tables;
       lent = lent;
-      coherent = λ m n start floors ts e calls. hangs-together m n start floors ts calls (coherent m n start floors ts e calls);
-      no-seventeen = no-seventeen;
+      coherent = λ m n start floors ts e calls. hangs-together m n start floors ts calls (lists.coherent m n start floors ts e calls);
+      no-seventeen = explaining.no-seventeen;
     }

@@ -20,13 +20,13 @@ use Rattle.bids.specs.Lent.{lineOf, sheetAbove}
 use Rattle.bids.specs.Refusal.{sealedAboveRefusal}
 use Rattle.bids.proofs.Lent.{rows-length, row-at}
 use Rattle.auction.specs.Sealed.{sealedAboveOf, fallingFirstOf}
-use Rattle.auction.proofs.Sealing.{above-number, falling-number, above-promised, falling-promised}
-use Rattle.auction.proofs.Naming.{bid-for, falling-bid-for}
-use Rattle.rule.proofs.AtPrices.{demands-some}
-use Rattle.rule.proofs.Balance.{named-bid}
-use Rattle.rule.proofs.Unchanged.{unchanged}
+use Rattle.auction.proofs.Sealing as sealing
+use Rattle.auction.proofs.Naming as naming
+use Rattle.rule.proofs.AtPrices as at-prices
+use Rattle.rule.proofs.Balance as balance
+use Rattle.rule.proofs.Unchanged as unchanging
 use Rattle.reasons.specs.Sheets.{formerReasonSheet}
-use Rattle.reasons.proofs.Unchanged.{same-sheet}
+use Rattle.reasons.proofs.Unchanged as sheets
 use Rattle.promises.specs.Zeros.{Request102}
 use Rattle.promises.proofs.Demand2.{demand2}
 
@@ -52,34 +52,34 @@ module _ (m n : ℕ) (start floors bids : List ℕ) (e : sealedAboveRefusal m n 
       → 0 < amount (lineOf m bids b) (option (sealedAboveOf m n start floors bids .assignment) b)
   unfolding option
   never-sealed h =
-      to-line _ (bid-for s (sealedAboveOf m n start floors bids) (above-promised m n start floors bids (sealedAboveOf m n start floors bids) refl (above-number m n start floors bids ∙ e)) b long h)
+      to-line _ (naming.bid-for s (sealedAboveOf m n start floors bids) (sealing.above-promised m n start floors bids (sealedAboveOf m n start floors bids) refl (sealing.above-number m n start floors bids ∙ e)) b long h)
 
   never-falling : 0 < option (fallingFirstOf m n start floors bids .assignment) b
       → 0 < amount (lineOf m bids b) (option (fallingFirstOf m n start floors bids .assignment) b)
   unfolding option
   never-falling h =
-      to-line _ (falling-bid-for s (fallingFirstOf m n start floors bids) (falling-promised m n start floors bids (fallingFirstOf m n start floors bids) refl (falling-number m n start floors bids ∙ e)) b long h)
+      to-line _ (naming.falling-bid-for s (fallingFirstOf m n start floors bids) (sealing.falling-promised m n start floors bids (fallingFirstOf m n start floors bids) refl (sealing.falling-number m n start floors bids ∙ e)) b long h)
 
 pub request102 : Request102
 unfolding Below opening formerDemands formerAfter formerPath formerRoundAt formerDemand mostRounds formerClose formerReasonAt formerReasonSheet
 request102 =
     record {
       never-demanded = zeros.demanded-bid;
-      never-empty = demands-some;
-      never-named = named-bid;
-      never-at-close = λ s e. named-bid (s .items) (aboveFloors (s .items) (s .floors) (close s .prices)) (s .bids) (close s .prices) (assignmentAt s (close s .prices)) (demand2 .rounds s e .names-fit);
+      never-empty = at-prices.demands-some;
+      never-named = balance.named-bid;
+      never-at-close = λ s e. balance.named-bid (s .items) (aboveFloors (s .items) (s .floors) (close s .prices)) (s .bids) (close s .prices) (assignmentAt s (close s .prices)) (demand2 .rounds s e .names-fit);
       never-sealed = never-sealed;
       never-falling = never-falling;
       former-start = λ s. refl;
       former-next = λ s k. refl;
       former-round = λ s k. refl;
-      same-rents = λ s. unchanged s .states;
-      same-rounds = λ s. unchanged s .rounds;
-      same-close = λ s. unchanged s .closes;
+      same-rents = λ s. unchanging.unchanged s .states;
+      same-rounds = λ s. unchanging.unchanged s .rounds;
+      same-close = λ s. unchanging.unchanged s .closes;
       same-rising = λ s. zeros.same-rising (s .items) (s .bids);
       same-falling = λ s p. zeros.same-falling (s .items) (s .bids) p (aboveFloors (s .items) (s .floors) p) (above-price s p);
-      same-reasons = λ s. unchanged s .reasons;
-      same-sheet = same-sheet;
-      still-balance = λ s q e. let x = unchanged s .balance-back q (record { from-floors = e .0; assigned = e .1 .0; balances = e .1 .1 }) in (x .from-floors, (x .assigned, x .balances));
-      balanced-before = λ s q e. let x = unchanged s .balance q (record { from-floors = e .0; assigned = e .1 .0; balances = e .1 .1 }) in (x .from-floors, (x .assigned, x .balances));
+      same-reasons = λ s. unchanging.unchanged s .reasons;
+      same-sheet = sheets.same-sheet;
+      still-balance = λ s q e. let x = unchanging.unchanged s .balance-back q (record { from-floors = e .0; assigned = e .1 .0; balances = e .1 .1 }) in (x .from-floors, (x .assigned, x .balances));
+      balanced-before = λ s q e. let x = unchanging.unchanged s .balance q (record { from-floors = e .0; assigned = e .1 .0; balances = e .1 .1 }) in (x .from-floors, (x .assigned, x .balances));
     }

@@ -1,6 +1,5 @@
 -- `promises::sealed::sealed` meets its contract. Assumes nothing.
 use borrow.Author.Needs.{needs}
-use Rattle.bids.specs.Lent.{sheetOf}
 use Rattle.promises.proofs.Calls.{stands}
 use Rattle.promises.proofs.sealed.sealed.Statement.{statement}
 use Rattle.promises.proofs.sealed.sealed.Tie as tie
