@@ -22,7 +22,8 @@ use Rattle.live.specs.declared.Auction.{Auction}
 use Rattle.bench_exports.specs.Lent as bench
 use Rattle.dewgneiss.specs.Back as lists
 use Rattle.dewgneiss.proofs.Back as back
-use Rattle.promises.specs.Calls.{Stands, Leaves, Least, InLists}
+use Rattle.promises.specs.Calls.{Stands, Leaves, InLists}
+use Rattle.promises.specs.Demand3Sealed.{Least}
 use Rattle.promises.specs.Matching.{Covers, MatchOrNone}
 use Rattle.promises.proofs.Gains.{gaining}
 

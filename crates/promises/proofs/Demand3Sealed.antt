@@ -18,6 +18,8 @@ use Rattle.digits.proofs.Numbers as numbers
 use Rattle.lines.specs.Lines.{newline, numberText, numberLine, amountsLine, closingSheet, sealedSheet, writtenTo}
 use Rattle.bids.specs.Lent.{lineOf, rowsOf, sheetAbove}
 use Rattle.bids.proofs.Limits as limits
+use Rattle.least.specs.Least as least
+use Rattle.least.proofs.Narrowing as narrowing
 use Rattle.auction.specs.Sealed.{closed, fallingClosed}
 use Rattle.auction.proofs.Sealing as sealing
 use Rattle.lines.proofs.ReadBack as back
@@ -29,7 +31,7 @@ use Rattle.sheet.proofs.Sixes as sixes
 use Rattle.sheet.proofs.Room as room
 use Rattle.sheet.proofs.Reading as reading
 use Rattle.sheet.proofs.Accepted as accepted
-use Rattle.promises.specs.Demand3Sealed.{Close, closingSheetOf, Outcomes, Sheets, Demand3Sealed}
+use Rattle.promises.specs.Demand3Sealed.{Close, Least, closingSheetOf, Outcomes, Sheets, Demand3Sealed}
 use Rattle.promises.proofs.Demand2 as rounds
 
 of-closing : (s : Sheet) (c : Closing s) → Close s (c .ups) (c .downs) (c .turn) (c .prices)
@@ -115,5 +117,16 @@ sheets =
       same-number = reading.same-number;
     }
 
+-- the page's least prices are those of `least`
+least-as : (m : ℕ) (bids : List (List ℕ)) (base p : List ℕ) → Least m bids base p → least.Least m bids base p
+unfolding Below
+least-as m bids base p l = record { least = record { above = l .from-base; empty = l .no-excess; least = l .lowest }; long = l .places-32 }
+
 pub demand3 : Demand3Sealed
-demand3 = record { closes = closes; outcomes = outcomes; sheets = sheets }
+demand3 =
+    record {
+      closes = closes;
+      outcomes = outcomes;
+      sheets = sheets;
+      one-least = λ m bids base p q a b. narrowing.one-least m bids base p q (least-as m bids base p a) (least-as m bids base q b);
+    }

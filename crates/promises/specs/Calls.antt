@@ -3,18 +3,14 @@ use Prim.Native.Nat.{ℕ}
 use mathlib.Core.Bool.{true}
 use mathlib.Core.List.{List, [], _∷_}
 use mathlib.Core.Path.{_≡_}
-use lib.ListN.{length}
 use Rattle.sets.specs.Lists.{places}
 use Rattle.rule.specs.Sheet.{Sheet, withinLimits}
-use Rattle.rule.specs.Demand.{demands}
-use Rattle.rule.specs.Excess.{excessDemand}
 use Rattle.rule.specs.Round.{State}
 use Rattle.rule.specs.Closing.{assignmentAt}
 use Rattle.rule.specs.Gains.{gainsAt}
 use Rattle.auction.specs.declared.Closing.{Closing}
 use Rattle.live.specs.declared.Auction.{Auction}
 use Rattle.bench_exports.specs.Lent.{phaseNumber}
-use Rattle.promises.specs.Demand3Sealed.{NotAbove}
 use Rattle.promises.specs.Gains.{Gaining}
 
 -- a sealed outcome r by value that no number turned down, of sheet s, whose path is at c at its close: rounds, rents in 32 places, names and gains in 64
@@ -38,13 +34,6 @@ pub record Leaves (s : Sheet) (c : State) (why : ℕ) (rounds prices options gai
   pub prices-kept : (why ≡ 0 → ⊥) → prices′ ≡ prices
   pub names-kept : (why ≡ 0 → ⊥) → options′ ≡ options
   pub gains-kept : (why ≡ 0 → ⊥) → gains′ ≡ gains
-
--- of all prices from `base` up at which the rising set is empty, these are the least, in 32 places
-pub record Least (m : ℕ) (bids : List (List ℕ)) (base p : List ℕ) : Type 0 where
-  pub from-base : NotAbove base p
-  pub no-excess : excessDemand m (demands m bids p) ≡ 0
-  pub lowest : (q : List ℕ) → NotAbove base q → excessDemand m (demands m bids q) ≡ 0 → NotAbove p q
-  pub places-32 : length p ≡ 32
 
 -- a record in lent lists: counts, who says no pan and who has reported; rents, floors, reported sets; rounds raised and lowered, and the phase, 0 rising, 1 falling, 2
 -- closed

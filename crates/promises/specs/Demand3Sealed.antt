@@ -11,7 +11,8 @@ use Rattle.sets.specs.Count.{allBelow}
 use Rattle.sets.specs.Bit.{has}
 use Rattle.sets.specs.Lists.{tabulate, places}
 use Rattle.rule.specs.Sheet.{Sheet, amount, greatest, withinLimits}
-use Rattle.rule.specs.Excess.{overdemanded, weaklyUnderdemanded, aboveFloors}
+use Rattle.rule.specs.Demand.{demands}
+use Rattle.rule.specs.Excess.{overdemanded, weaklyUnderdemanded, excessDemand, aboveFloors}
 use Rattle.rule.specs.Round.{State, path, close}
 use Rattle.rule.specs.Assignment.{isAssignment, total, floorTotal}
 use Rattle.rule.specs.Closing.{demandsAt, excessDemandAt, excessSupplyAt, FitsAt, assignmentAt}
@@ -68,6 +69,13 @@ pub record Close (s : Sheet) (u d : ℕ) (t p : List ℕ) : Type 0 where
   pub range : (k i : ℕ) → amount (path s k .prices) i ≤ 4095
   pub above-floor : (k i : ℕ) → amount (s .floors) i ≤ amount (path s k .prices) i
   pub raisable : (k i : ℕ) → has (excessDemandAt s (path s k .prices)) i ≡ true → amount (path s k .prices) i < 4095
+
+-- of all prices from `base` up at which the rising set is empty, these are the least, in 32 places: the close from the floors up, the turn from the start up
+pub record Least (m : ℕ) (bids : List (List ℕ)) (base p : List ℕ) : Type 0 where
+  pub from-base : NotAbove base p
+  pub no-excess : excessDemand m (demands m bids p) ≡ 0
+  pub lowest : (q : List ℕ) → NotAbove base q → excessDemand m (demands m bids q) ≡ 0 → NotAbove p q
+  pub places-32 : length p ≡ 32
 
 -- the closing sheet of a sheet, four lines: its rounds raised and lowered, its rents, its names and its gains (#106) at the close
 abbrev pub closingSheetOf : Sheet → List ℕ
@@ -145,3 +153,5 @@ pub record Demand3Sealed : Type 0 where
   pub closes : (s : Sheet) → withinLimits s ≡ true → Close s (close s .ups) (close s .downs) (path s (close s .ups) .prices) (close s .prices)
   pub outcomes : Outcomes
   pub sheets : Sheets
+  -- what the letting computes in place of the rounds leaves nothing open: there is one such list
+  pub one-least : (m : ℕ) (bids : List (List ℕ)) (base p q : List ℕ) → Least m bids base p → Least m bids base q → p ≡ q

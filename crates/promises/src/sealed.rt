@@ -11,7 +11,8 @@ ghost use Rattle.assignment.specs.Assigned.{assigned};
 ghost use Rattle.demands.specs.Demands.{surplusOf, demandsOf, surplusesOf, held};
 ghost use Rattle.auction.specs.Sealed.{sealedOf, sealedAboveOf, fallingFirstOf};
 ghost use Rattle.dewgneiss.specs.Lent.{lentRefusal, lentAboveRefusal};
-ghost use Rattle.promises.specs.Calls.{Stands, Leaves, Least};
+ghost use Rattle.promises.specs.Calls.{Stands, Leaves};
+ghost use Rattle.promises.specs.Demand3Sealed.{Least};
 
 // ---- exported, into lent lists
 
