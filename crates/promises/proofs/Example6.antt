@@ -33,7 +33,7 @@ use Rattle.reasons.specs.Sheets.{reasonLine, reasonSheet}
 use Rattle.reasons.proofs.Answers.{by-sheet}
 use Rattle.promises.specs.Demand3Sealed.{closingSheetOf}
 use Rattle.promises.specs.Text.{text}
-use Rattle.promises.specs.Cases.{plain, six, sixth, Example6}
+use Rattle.promises.specs.Cases.{plain, six, sixth, sixthClosed, sixthReasons, Example6}
 use Rattle.promises.proofs.Demand3Sealed.{demand3}
 use Rattle.promises.proofs.Lettings.{lettings}
 
@@ -64,7 +64,7 @@ accepted room l = by-room sixth 42 at-42 room ∙ passed 3 (ltb room (sealedLeng
     too-few : (room : ℕ) → 42 ≤ room → ltb room (sealedLength (bidSheetOf sixth .items) (bidSheetOf sixth .bidders)) ≡ false
     too-few room l = unfold computing in le-ltb room 42 l
 
-closing-lines : closingSheetOf s ≡ text "000002000002\n00020006\n000201\n000000010004\n"
+closing-lines : closingSheetOf s ≡ sixthClosed
 unfolding computing amount row option gain gainsAt
 closing-lines =
     let k = lettings .K1 in
@@ -74,8 +74,7 @@ closing-lines =
     ∙ ap (λ (q : List ℕ). sealedSheet 2 3 2 2 q (assignmentAt s q) (gainsAt s q)) (k .prices)
     ∙ ap (λ (xs : List ℕ). sealedSheet 2 3 2 2 p xs (tabulate 3 (gain six p xs) 0)) (sym (ap (assignmentAt s) (k .prices)) ∙ k .names)
 
-reason-lines : reasonSheet s
-    ≡ text "000101000000020000000000000007\n000201000000020000000000000003\n000302000000010000000000000004\n000402000000010000000000000004\n"
+reason-lines : reasonSheet s ≡ sixthReasons
 unfolding computing reasoning roundCount reasonSheet
 reason-lines =
     let k = lettings .K1 in

@@ -100,11 +100,17 @@ pub record Lettings : Type 0 where
 abbrev pub sixth : List ℕ
 sixth = text "020300040004\n00020006\n00030007\n00060007\n"
 
--- "Example 6 goes in and comes out as", with the fourth line of #106, "example 6 ending in 000000010004"; and its sheet of reasons (#101)
+-- its closing sheet, with the fourth line of #106, "example 6 ending in 000000010004", and its sheet of reasons (#101)
+abbrev pub sixthClosed : List ℕ
+sixthClosed = text "000002000002\n00020006\n000201\n000000010004\n"
+
+abbrev pub sixthReasons : List ℕ
+sixthReasons = text "000101000000020000000000000007\n000201000000020000000000000003\n000302000000010000000000000004\n000402000000010000000000000004\n"
+
+-- "Example 6 goes in and comes out as"
 pub record Example6 : Type 0 where
-  pub closing : (room : ℕ) → 42 ≤ room → answerOf sixth room ≡ text "000002000002\n00020006\n000201\n000000010004\n"
-  pub reasons : reasonsIn sixth
-      ≡ text "000101000000020000000000000007\n000201000000020000000000000003\n000302000000010000000000000004\n000402000000010000000000000004\n"
+  pub closing : (room : ℕ) → 42 ≤ room → answerOf sixth room ≡ sixthClosed
+  pub reasons : reasonsIn sixth ≡ sixthReasons
 
 -- "Also: 32 pans and 64 rakers accepted, 33 gives 1, 65 gives 2; a start and a bid of 4,096 together give 4"
 pub record Also : Type 0 where
