@@ -28,6 +28,7 @@ use Rattle.sheet.specs.Close.{bidSheetOf, sheetRefusal, byNumber, closingOf, an
 use Rattle.sheet.specs.Accepted.{sheetIn, sheetOfClosing}
 use Rattle.sheet.proofs.ReadWritten as written
 use Rattle.sheet.proofs.Sixes as sixes
+use Rattle.sheet.proofs.Longer as longer
 use Rattle.sheet.proofs.Room as room
 use Rattle.sheet.proofs.Reading as reading
 use Rattle.sheet.proofs.Accepted as accepted
@@ -113,6 +114,7 @@ sheets =
       written = λ bytes out e. let a = accepted.accepted-sheet bytes out e in a .written ∙ ap (writtenTo out) (closing-sheet (sheetIn bytes) (a .promised .closing));
       printed = λ bytes room e. accepted.accepted-answer bytes room e ∙ closing-sheet (sheetIn bytes) (accepted.promised bytes room e .closing);
       number-printed = number-printed;
+      past = longer.same-answer;
       enough = room.no-three;
       same-number = reading.same-number;
     }

@@ -11,12 +11,13 @@ use Rattle.rule.specs.Round.{Round, raised, lowered, closed}
 use Rattle.rule.proofs.Refusal.{none}
 use Rattle.live.specs.Auction.{wellFormed, missing, risingSet, fallingSet}
 use Rattle.live.specs.Tables.{badTables, tablesFit, anyUnexplained}
-use Rattle.live.specs.Calls.{isClosed, isFalling, opened, openedBy, openAbove, withReport, report, cleared, clear, roundBy, settled, Ending, gives, refused, endNumber, endAnswer, endNext}
+use Rattle.live.specs.Calls.{isClosed, isFalling, opened, openedBy, openAbove, withReport, report, cleared, clear, roundBy, settled, moveOf, endingOf, Ending, gives, refused, endNumber, endAnswer, endNext}
 use Rattle.live.specs.Reading.{namesOf, sheetOf, readBytes}
 use Rattle.live.specs.declared.Auction.{Auction}
 use Rattle.live.specs.declared.Phase.{Phase}
 use Rattle.live.specs.declared.Phase.the-variants.{Rising, Falling, Closed}
 use Rattle.live.proofs.Ending as ending
+use Rattle.agreement.proofs.Endings as endings
 use Rattle.lines.specs.Lines.{writtenTo}
 use Rattle.promises.specs.Demand2.{Live}
 
@@ -94,7 +95,7 @@ module _ (r : Auction) (ts : List ℤ) where
   after x e = let g = given-by x e in ap (λ (n : ℕ). elim n [ zero ↦ settled r (roundBy r) | suc j ↦ r ]) (g .0) ∙ ap (settled r) (g .1)
 
 pub live : Live
-unfolding openAbove openedBy opened report withReport clear cleared settled sheetOf namesOf readBytes
+unfolding openAbove openedBy opened moveOf endingOf report withReport clear cleared settled sheetOf namesOf readBytes
 live =
     record {
       opens = λ m n start floors ts e. ap (λ (x : ℕ). openedBy x m n start floors .next) e;
@@ -105,6 +106,11 @@ live =
       closes-if = closes-if;
       closes-only-if = closes-only-if;
       turned-down = turned-down;
+      moved-up = λ x. refl;
+      moved-down = λ x. refl;
+      ends-closed = refl;
+      ends-refused = λ why. refl;
+      endings-apart = endings.ending-only;
       after-raise = λ r ts x. after r ts (raised x);
       after-lower = λ r ts x. after r ts (lowered x);
       after-close = λ r ts. after r ts closed;

@@ -8,8 +8,9 @@ use lib.IntN.{ℤ}
 use Rattle.sets.proofs.Tests.{and-right}
 use Rattle.rule.specs.Sheet.{Sheet}
 use Rattle.rule.specs.Round.{Round, raised, lowered, closed}
-use Rattle.differences.specs.Table.{meets, largestTable, reached, opening, tableFits}
+use Rattle.differences.specs.Table.{meets, largestTable, reached, opening, isDifference, zeroBeyond, inRange, tableFits}
 use Rattle.differences.specs.Allowed.{explains, allows, narrowed, unexplained}
+use Rattle.differences.specs.Lent.{flat, rowsOf, part, tableAt, flatAll}
 use Rattle.differences.proofs.Laws as laws
 use Rattle.live.specs.Tables.{openTables, narrowedTables}
 use Rattle.live.specs.Calls.{Ending, gives, refused, endNumber, endAnswer, endTables, narrowedBy, roundBy}
@@ -27,15 +28,21 @@ use Rattle.promises.proofs.Live.{no-round, given-by}
 use Rattle.promises.proofs.Demand3Live.{other, without, closes-as}
 
 tables : TableLaws
-unfolding meets largestTable reached opening narrowed allows explains tableFits unexplained
+unfolding rowsOf part tableAt flat flatAll meets largestTable reached opening isDifference zeroBeyond inRange narrowed allows explains tableFits unexplained
 tables =
     record {
+      table-at = λ ts k. refl;
+      tables-none = λ f. refl;
+      tables-next = λ n f. refl;
+      rows-next = λ row rows. refl;
       meets-is = λ m t b. refl;
       largest-is = λ m f. refl;
       opening-is = λ m. refl;
       opening-met = laws.opening-met;
       narrowed-is = λ m t p d. refl;
       narrowed-met = laws.narrow-meets;
+      zero-beyond = λ m t. refl;
+      in-range = λ m t. refl;
       fits-is = λ m t. refl;
       nineteen-is = λ m t p d. refl;
     }

@@ -20,9 +20,13 @@ use Rattle.rule.specs.Assignment.{option, holders, isAssignment, fits, NotAfter
 use Rattle.rule.specs.Closing.{excessDemandAt, excessSupplyAt, FitsAt, assignmentAt, roundOf}
 use Rattle.lines.specs.Lines.{closingSheet, writtenTo}
 use Rattle.live.specs.Auction.{reportsOf, itemsAbove, risingSet, fallingSet}
-use Rattle.live.specs.Calls.{openAboveNumber, openAbove, reportNumber, report, clearNumber, clear, endNumber, gives, refused, endAnswer, endNext}
+use Rattle.live.specs.Calls.{openAboveNumber, openAbove, reportNumber, report, clearNumber, clear, endNumber, gives, refused, endingOf, endAnswer, endNext}
 use Rattle.live.specs.Reading.{readNumber, readBytes}
 use Rattle.live.specs.declared.Auction.{Auction}
+use Rattle.live.specs.declared.Ended.{Ended}
+use Rattle.live.specs.declared.Ended.the-variants.{Moved, Refused}
+use Rattle.live.specs.declared.Ended.the-variants.{Closed as Closes}
+use Rattle.live.specs.declared.Kind.the-variants.{Raised, Lowered}
 use Rattle.live.specs.declared.Phase.{Phase}
 use Rattle.live.specs.declared.Phase.the-variants.{Rising, Falling, Closed}
 
@@ -155,6 +159,12 @@ pub record Live : Type 0 where
   pub closes-if : (r : Auction) (ts : List ℤ) → endNumber r ts ≡ 0 → risingSet r ≡ 0 → fallingSet r ≡ 0 → endAnswer r ts ≡ gives closed
   pub closes-only-if : (r : Auction) (ts : List ℤ) → endAnswer r ts ≡ gives closed → (risingSet r ≡ 0) × (fallingSet r ≡ 0)
   pub turned-down : (r : Auction) (ts : List ℤ) (why : ℕ) → endNumber r ts ≡ suc why → endAnswer r ts ≡ refused (suc why)
+  -- the enum that is answered: "a definition gives this paper's number and values for each case", and no two answers have the same
+  pub moved-up : (x : ℕ) → endingOf (Moved Raised x) ≡ gives (raised x)
+  pub moved-down : (x : ℕ) → endingOf (Moved Lowered x) ≡ gives (lowered x)
+  pub ends-closed : endingOf Closes ≡ gives closed
+  pub ends-refused : (why : ℕ) → endingOf (Refused why) ≡ refused why
+  pub endings-apart : (a b : Ended) → endingOf a ≡ endingOf b → a ≡ b
   -- "A move empties the reports. A close keeps them. The turn needs no round of its own"
   pub after-raise : (r : Auction) (ts : List ℤ) (x : ℕ) → endAnswer r ts ≡ gives (raised x) → endNext r ts ≡ emptied r (raise 32 (r .prices) x) Rising (r .raised + 1) (r .lowered)
   pub after-lower : (r : Auction) (ts : List ℤ) (x : ℕ) → endAnswer r ts ≡ gives (lowered x) → endNext r ts ≡ emptied r (lower 32 (r .prices) x) Falling (r .raised) (r .lowered + 1)

@@ -140,11 +140,12 @@ pub record Sheets : Type 0 where
       → readSealed m n (sealedSheet m n u d p xs gains)
       ≡ some (record { said = record { rounds = u ∷ d ∷ []; prices = places m p; options = places n xs }; gains = places n gains })
   -- a bid sheet that is not turned down says a sheet within the limits, and its closing sheet is written, bytes past it staying as they came: rounds, rents, names and
-  -- gains of the close. With 528 bytes there is always room
+  -- gains of the close. What stands behind byte 8,390 of an input changes nothing, and with 528 bytes there is always room
   pub within : (bytes : List ℕ) (room : ℕ) → sheetRefusal bytes room ≡ 0 → withinLimits (sheetIn bytes) ≡ true
   pub written : (bytes out : List ℕ) → sheetRefusal bytes (length out) ≡ 0 → closedTo bytes out ≡ closingSheetOf (sheetIn bytes) ++ drop (length (closingSheetOf (sheetIn bytes))) out
   pub printed : (bytes : List ℕ) (room : ℕ) → sheetRefusal bytes room ≡ 0 → answerOf bytes room ≡ closingSheetOf (sheetIn bytes)
   pub number-printed : (bytes : List ℕ) (room : ℕ) → 3 ≤ room → (sheetRefusal bytes room ≡ 0 → ⊥) → answerOf bytes room ≡ numberLine (sheetRefusal bytes room)
+  pub past : (bytes : List ℕ) (room k : ℕ) → 8390 ≤ k → answerOf (take k bytes) room ≡ answerOf bytes room
   pub enough : (bytes : List ℕ) (room : ℕ) → 528 ≤ room → sheetRefusal bytes room ≡ 3 → ⊥
   -- the same number where no closing sheet is asked for, as the sheet of reasons does (#101)
   pub same-number : (bytes : List ℕ) (room : ℕ) → 528 ≤ room → bidSheetRefusal bytes ≡ sheetRefusal bytes room

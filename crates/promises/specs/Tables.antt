@@ -1,22 +1,24 @@
 -- Request #107: reports that hang together. Every field is a sentence by itself; the numbers and their order stand in `Demand1`, the machine's tables in
 -- `Demand3Live`. Assumes nothing: these are statements, which `proofs/Tables` proves.
-use Prim.Native.Nat.{ℕ, suc, _+_, _≤_, _<_}
+use Prim.Native.Nat.{ℕ, suc, _+_, _*_, _≤_, _<_}
 use mathlib.Core.Bool.{Bool, true, false, _&&_, not, cond}
-use mathlib.Core.List.{List, [], _∷_}
+use mathlib.Core.List.{List, [], _∷_, _++_}
 use mathlib.Core.Path.{_≡_}
-use lib.ListN.{length}
-use lib.IntN.{ℤ, pos, subℕ}
+use lib.ListN.{length, take, drop}
+use lib.IntN.{ℤ, pos, negsuc, subℕ}
 use lib.Dec.{eqb}
 use lib.Signed.{leZ}
+use Rattle.sets.specs.Count.{_⇒_, allBelow}
 use Rattle.sets.specs.Bit.{each}
+use Rattle.sets.specs.Lists.{tabulate}
 use Rattle.rule.specs.Sheet.{Sheet, amount, each4095, withinLimits}
 use Rattle.rule.specs.Demand.{Demand, demand, nth}
 use Rattle.rule.specs.Round.{raised, lowered, closed}
 use Rattle.rule.specs.Closing.{demandsAt}
 use Rattle.reports.specs.Report.{sameDemand}
-use Rattle.differences.specs.Table.{someBids, entry, meets, greatestBelow, tableOf, isBeyond, largestTable, opening, zeroBeyond, inRange, tableFits}
+use Rattle.differences.specs.Table.{someBids, entry, meets, greatestBelow, tableOf, isBeyond, largestTable, opening, isZero, zeroBeyond, inRange, tableFits}
 use Rattle.differences.specs.Allowed.{narrowed, unexplained}
-use Rattle.differences.specs.Lent.{tableAt, flatAll}
+use Rattle.differences.specs.Lent.{flat, tableAt, flatAll}
 use Rattle.live.specs.Auction.{place, hasReported}
 use Rattle.live.specs.Calls.{openAboveNumber, endNumber, gives, refused, endAnswer, endTables}
 use Rattle.live.specs.declared.Auction.{Auction}
@@ -36,6 +38,11 @@ WithoutAtEnd n (shown x out ∷ rest) = WithoutAtEnd n rest
 
 -- what a table is, and what is done to it: of m pans, any table t, any prices p and report d
 pub record TableLaws : Type 0 where
+  -- "a table of 33 by 33", "place 0 for no pan, row after row, raker after raker": raker k + 1's table among the lent numbers, and the numbers of n rakers' tables
+  pub table-at : (ts : List ℤ) (k : ℕ) → tableAt ts k ≡ tabulate 33 (λ i. take 33 (drop (i * 33) (take 1089 (drop (k * 1089) ts)))) 0
+  pub tables-none : (f : ℕ → List (List ℤ)) → flatAll 0 f ≡ []
+  pub tables-next : (n : ℕ) (f : ℕ → List (List ℤ)) → flatAll (suc n) f ≡ flatAll n f ++ flat (f n)
+  pub rows-next : (row : List ℤ) (rows : List (List ℤ)) → flat (row ∷ rows) ≡ row ++ flat rows
   -- bids meet a table if no difference of two of them, no pan included, exceeds its number, row less column
   pub meets-is : (m : ℕ) (t : List (List ℤ)) (b : List ℕ) → meets m t b ≡ each m λ i. each m λ j. leZ (subℕ (amount b i) (amount b j)) (entry t i j)
   -- "Every number is then the largest reached, row less column", by bids of 0 to 4,095 that pass; "Places for pans beyond the count hold 0"
@@ -50,6 +57,8 @@ pub record TableLaws : Type 0 where
   pub narrowed-met : (m : ℕ) → m ≤ 32 → (t : List (List ℤ)) → tableFits m t ≡ true → (p : List ℕ) → ((i : ℕ) → amount p i ≤ 4095) → (d : Demand)
       → unexplained m t p d ≡ false → (b : List ℕ) → each4095 m b ≡ true → meets m (narrowed m t p d) b ≡ meets m t b && sameDemand d (demand m p b)
   -- "A table with another value there, a number beyond −4,095 to 4,095, or no bids of 0 to 4,095 that meet it, counts under 11"
+  pub zero-beyond : (m : ℕ) (t : List (List ℤ)) → zeroBeyond m t ≡ allBelow 33 λ i. allBelow 33 λ j. isBeyond m i j ⇒ isZero (entry t i j)
+  pub in-range : (m : ℕ) (t : List (List ℤ)) → inRange m t ≡ each m λ i. each m λ j. leZ (negsuc 4094) (entry t i j) && leZ (entry t i j) (pos 4095)
   pub fits-is : (m : ℕ) (t : List (List ℤ)) → tableFits m t ≡ zeroBeyond m t && inRange m t && someBids m (meets m t)
   -- "19 when no bids of 0 to 4,095 explain the raker's report and also meet the table"
   pub nineteen-is : (m : ℕ) (t : List (List ℤ)) (p : List ℕ) (d : Demand) → unexplained m t p d ≡ not (someBids m λ b. meets m t b && sameDemand d (demand m p b))
