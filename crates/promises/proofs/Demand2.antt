@@ -1,26 +1,19 @@
 -- Demand 2, from the definitions and the theorems of `rule`. Assumes nothing.
-use Prim.Native.Nat.{ℕ, suc, _+_, _-_, _<_}
-use mathlib.Core.Path.{_≡_, refl, sym, ap, _∙_, subst}
-use mathlib.Core.List.{List}
-use Rattle.sets.specs.Count.{toNat}
-use Rattle.sets.specs.Bit.{has}
+use Prim.Native.Nat.{_+_}
+use mathlib.Core.Path.{refl, sym, _∙_}
 use Rattle.rule.specs.Sheet.{Sheet, amount}
 use Rattle.rule.specs.Demand.{surplusAtLeast, best}
 use Rattle.rule.specs.Excess.{crowded, inExcess, inPositiveExcess}
-use Rattle.rule.specs.Round.{Round, raised, lowered, State, move, opening, after, path, close}
+use Rattle.rule.specs.Round.{opening, after, path}
 use Rattle.rule.specs.Assignment.{isAssignment, fits, total, floorTotal}
 use Rattle.rule.specs.Closing.{Closing, excessDemandAt, excessSupplyAt, roundOf}
 use Rattle.rule.proofs.Zeros as zeros
-use Rattle.rule.proofs.Moves as moves
 use Rattle.rule.proofs.Largest as largest
 use Rattle.rule.proofs.EmptySets as empty
 use Rattle.rule.proofs.Closing.{closing}
 use Rattle.promises.specs.Demand2.{Demands, Sets, Names, Rounds, Demand2}
+use Rattle.promises.proofs.AtClose.{at-close, raised-by, lowered-by}
 use Rattle.promises.proofs.Live.{live}
-
--- what is said of a closing's numbers holds of those of the sheet's close
-pub at-close : (s : Sheet) (c : Closing s) (P : ℕ → ℕ → List ℕ → Type 0) → P (c .ups) (c .downs) (c .prices) → P (close s .ups) (close s .downs) (close s .prices)
-at-close s c P = subst (λ (t : State). P (t .ups) (t .downs) (t .prices)) (sym (c .close-is))
 
 demands : Demands
 unfolding amount surplusAtLeast best
@@ -52,15 +45,6 @@ sets =
 names : Names
 unfolding isAssignment fits total floorTotal
 names = record { naming-is = λ m n xs. refl; fits-is = λ m above ds xs. refl; total-is = λ bids xs. refl; floors-are = λ floors xs. refl }
-
--- a state's prices after a round that raises, and after one that lowers
-pub raised-by : (m : ℕ) (t : State) (x : ℕ) (r : Round) → r ≡ raised x → (i : ℕ) → i < suc m → amount (move m t r .prices) i ≡ amount (t .prices) i + toNat (has x i)
-unfolding move
-raised-by m t x r e i l = ap (λ (r : Round). amount (move m t r .prices) i) e ∙ moves.raise-at m (t .prices) x i l
-
-pub lowered-by : (m : ℕ) (t : State) (x : ℕ) (r : Round) → r ≡ lowered x → (i : ℕ) → i < suc m → amount (move m t r .prices) i ≡ amount (t .prices) i - toNat (has x i)
-unfolding move
-lowered-by m t x r e i l = ap (λ (r : Round). amount (move m t r .prices) i) e ∙ moves.lower-at m (t .prices) x i l
 
 rounds : (s : Sheet) → (c : Closing s) → Rounds s (c .ups) (c .downs) (c .prices)
 unfolding opening after path

@@ -33,7 +33,7 @@ use Rattle.sheet.proofs.Room as room
 use Rattle.sheet.proofs.Reading as reading
 use Rattle.sheet.proofs.Accepted as accepted
 use Rattle.promises.specs.Demand3Sealed.{Close, Least, closingSheetOf, Outcomes, Sheets, Demand3Sealed}
-use Rattle.promises.proofs.Demand2 as rounds
+use Rattle.promises.proofs.AtClose.{at-close}
 
 of-closing : (s : Sheet) (c : Closing s) → Close s (c .ups) (c .downs) (c .turn) (c .prices)
 unfolding Below
@@ -61,7 +61,7 @@ of-closing s c =
 pub closes : (s : Sheet) → withinLimits s ≡ true → Close s (close s .ups) (close s .downs) (path s (close s .ups) .prices) (close s .prices)
 closes s e =
     let c = closing s e in
-    rounds.at-close s c (λ u d p. Close s u d (path s u .prices) p)
+    at-close s c (λ u d p. Close s u d (path s u .prices) p)
     (subst (λ (t : List ℕ). Close s (c .ups) (c .downs) t (c .prices)) (sym (ap (λ (t : State). t .prices) (c .at-turn))) (of-closing s c))
 
 -- the closing sheet of a closing is that of the sheet's close
@@ -80,6 +80,9 @@ outcomes =
       with-floors = λ m n start floors bids e. sym (sealing.above-closed m n start floors bids e);
       falling-first = λ m n start floors bids e. sym (sealing.falling-closed m n start floors bids e);
     }
+
+pub printed : (bytes : List ℕ) (room : ℕ) → sheetRefusal bytes room ≡ 0 → answerOf bytes room ≡ closingSheetOf (sheetIn bytes)
+printed bytes room e = accepted.accepted-answer bytes room e ∙ closing-sheet (sheetIn bytes) (accepted.promised bytes room e .closing)
 
 -- under a number its line is printed, where there is room for that
 number-printed : (bytes : List ℕ) (room : ℕ) → 3 ≤ room → (sheetRefusal bytes room ≡ 0 → ⊥) → answerOf bytes room ≡ numberLine (sheetRefusal bytes room)
@@ -112,7 +115,7 @@ sheets =
       sealed-back = back.sealed-back;
       within = λ bytes room e. accepted.promised bytes room e .within;
       written = λ bytes out e. let a = accepted.accepted-sheet bytes out e in a .written ∙ ap (writtenTo out) (closing-sheet (sheetIn bytes) (a .promised .closing));
-      printed = λ bytes room e. accepted.accepted-answer bytes room e ∙ closing-sheet (sheetIn bytes) (accepted.promised bytes room e .closing);
+      printed = printed;
       number-printed = number-printed;
       past = longer.same-answer;
       enough = room.no-three;

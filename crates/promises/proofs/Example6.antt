@@ -34,7 +34,7 @@ use Rattle.reasons.proofs.Answers.{by-sheet}
 use Rattle.promises.specs.Demand3Sealed.{closingSheetOf}
 use Rattle.promises.specs.Text.{text}
 use Rattle.promises.specs.Cases.{plain, six, sixth, sixthClosed, sixthReasons, Example6}
-use Rattle.promises.proofs.Demand3Sealed.{demand3}
+use Rattle.promises.proofs.Demand3Sealed.{printed}
 use Rattle.promises.proofs.Lettings.{lettings}
 
 -- the definitions that sheets are read and written by
@@ -84,6 +84,6 @@ reason-lines =
 pub example6 : Example6
 example6 =
     record {
-      closing = λ room l. demand3 .sheets .printed sixth room (accepted room l) ∙ ap closingSheetOf says ∙ closing-lines;
+      closing = λ room l. printed sixth room (accepted room l) ∙ ap closingSheetOf says ∙ closing-lines;
       reasons = by-sheet sixth (unfold computing in refl) ∙ ap reasonSheet says ∙ reason-lines;
     }

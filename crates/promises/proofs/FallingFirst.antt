@@ -10,7 +10,7 @@ use Rattle.rule.specs.Closing.{excessDemandAt, excessSupplyAt, assignmentAt}
 use Rattle.rule.specs.FallingFirst.{fallingPath, fallingRoundOf, fallingClose, FallingClosing}
 use Rattle.rule.proofs.FallingClosing.{falling-closing}
 use Rattle.promises.specs.FallingFirst.{Falls, Request104}
-use Rattle.promises.proofs.Demand2.{raised-by, lowered-by}
+use Rattle.promises.proofs.AtClose.{raised-by, lowered-by}
 
 of-closing : (s : Sheet) (c : FallingClosing s) → Falls s (c .downs) (c .ups) (c .turn) (c .prices)
 unfolding fallingPath Below

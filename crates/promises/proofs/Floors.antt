@@ -24,8 +24,7 @@ use Rattle.auction.proofs.Sealing as sealed
 use Rattle.live.proofs.Opening as live
 use Rattle.sheet.specs.Accepted.{sheetIn}
 use Rattle.promises.specs.Floors.{Request103}
-use Rattle.promises.proofs.Demand2.{demand2, at-close}
-use Rattle.promises.proofs.Demand3Sealed.{demand3}
+use Rattle.promises.proofs.AtClose.{at-close, fitting, from-floors}
 
 unlet : (s : Sheet) → withinLimits s ≡ true → (i : ℕ) → i < suc (s .items) → ((b : ℕ) → b < length (s .bids) → option (assignmentAt s (close s .prices)) b ≡ i → ⊥)
     → amount (close s .prices) i ≡ amount (s .floors) i
@@ -36,10 +35,10 @@ unlet s e i l nobody = go (has above i) refl
 
     go : (b : Bool) → has above i ≡ b → amount (close s .prices) i ≡ amount (s .floors) i
     go true h =
-        let x = fits-use (s .items) above (demands (s .items) (s .bids) (close s .prices)) (assignmentAt s (close s .prices)) (demand2 .rounds s e .names-fit) .covers i l h in
+        let x = fits-use (s .items) above (demands (s .items) (s .bids) (close s .prices)) (assignmentAt s (close s .prices)) (fitting s e) .covers i l h in
         absurd (nobody (x .0) (omega (arith, x .1, demands-length (s .items) (s .bids) (close s .prices))) (x .2))
     go false h =
-        omega (arith, demand3 .closes s e .balance .0 i, ltb-false (amount (s .floors) i) (amount (close s .prices) i) (sym (aboveFloors-is (s .items) (s .floors) (close s .prices) i l) ∙ h))
+        omega (arith, from-floors s e i, ltb-false (amount (s .floors) i) (amount (close s .prices) i) (sym (aboveFloors-is (s .items) (s .floors) (close s .prices) i l) ∙ h))
 
 pub request103 : Request103
 unfolding sheetOf sheetIn sheetAbove

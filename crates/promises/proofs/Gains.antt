@@ -1,26 +1,22 @@
 -- Request #106, from the theorems of `rule` and `lines`. Assumes nothing.
 use Prim.Native.Nat.{ℕ}
-use mathlib.Core.Path.{_≡_, refl, sym, subst}
+use mathlib.Core.Path.{_≡_, refl}
 use mathlib.Core.Bool.{true}
 use mathlib.Core.List.{List}
 use Rattle.rule.specs.Sheet.{Sheet, withinLimits}
 use Rattle.rule.specs.Demand.{surpluses}
-use Rattle.rule.specs.Round.{State, close}
-use Rattle.rule.specs.Closing.{FitsAt, assignmentAt}
+use Rattle.rule.specs.Round.{close}
 use Rattle.rule.specs.Gains.{Gains}
-use Rattle.rule.proofs.Closing.{closing}
 use Rattle.rule.proofs.Highest as highest
 use Rattle.rule.proofs.Gains as gains
 use Rattle.lines.specs.Lines.{newline, amountsLine, sealedSheet, closingLength, sealedLength}
 use Rattle.lines.proofs.Lengths as lengths
 use Rattle.promises.specs.Gains.{Gaining, Request106}
+use Rattle.promises.proofs.AtClose.{fitting}
 
 pub gaining : (s : Sheet) (p : List ℕ) → Gains s p → Gaining s p
 unfolding surpluses
 gaining s p g = record { exact = g .exact; most = g .most; found = g .found }
-
-fitting : (s : Sheet) → withinLimits s ≡ true → FitsAt s (close s .prices) (assignmentAt s (close s .prices))
-fitting s e = let c = closing s e in subst (λ (t : State). FitsAt s (t .prices) (assignmentAt s (t .prices))) (sym (c .close-is)) (c .fitting)
 
 at : (s : Sheet) → withinLimits s ≡ true → Gains s (close s .prices)
 at s e = gains.gains s (close s .prices) (fitting s e)

@@ -1,3 +1,4 @@
+pub mod AtClose
 pub mod Demand1
 pub mod Live
 pub mod Demand2

@@ -10,7 +10,7 @@ use Rattle.reasons.proofs.Answers as answers
 use Rattle.reasons.proofs.ReadBack as back
 use Rattle.live.proofs.Reasons as live
 use Rattle.promises.specs.Reasons.{Right, Request101}
-use Rattle.promises.proofs.Demand2.{at-close}
+use Rattle.promises.proofs.AtClose.{at-close}
 
 right : (m n : ℕ) (r : Reason) → Justified m n r → Right m n r
 right m n r j = (j .raised-more, j .lowered-no-more)

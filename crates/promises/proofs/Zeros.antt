@@ -28,7 +28,7 @@ use Rattle.rule.proofs.Unchanged as unchanging
 use Rattle.reasons.specs.Sheets.{formerReasonSheet}
 use Rattle.reasons.proofs.Unchanged as sheets
 use Rattle.promises.specs.Zeros.{Request102}
-use Rattle.promises.proofs.Demand2.{demand2}
+use Rattle.promises.proofs.AtClose.{fitting}
 
 -- a pan above its floor has a rent above 0
 above-price : (s : Sheet) (p : List ℕ) (i : ℕ) → i < suc (s .items) → has (aboveFloors (s .items) (s .floors) p) i ≡ true → 0 < amount p i
@@ -67,7 +67,7 @@ request102 =
       never-demanded = zeros.demanded-bid;
       never-empty = at-prices.demands-some;
       never-named = balance.named-bid;
-      never-at-close = λ s e. balance.named-bid (s .items) (aboveFloors (s .items) (s .floors) (close s .prices)) (s .bids) (close s .prices) (assignmentAt s (close s .prices)) (demand2 .rounds s e .names-fit);
+      never-at-close = λ s e. balance.named-bid (s .items) (aboveFloors (s .items) (s .floors) (close s .prices)) (s .bids) (close s .prices) (assignmentAt s (close s .prices)) (fitting s e);
       never-sealed = never-sealed;
       never-falling = never-falling;
       former-start = λ s. refl;
