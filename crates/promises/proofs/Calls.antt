@@ -135,14 +135,14 @@ in-lists r numbers prices floors sets rounds s =
 
 -- ---- the matching
 
-covers : (ds : List ℕ) (rakers pans : ℕ) (h : ℕ → ℕ) → matching.Matching 32 64 ds h → matching.Covering 32 64 ds rakers pans h → Covers ds rakers pans h
+covers : (ds : List ℕ) (bidders items : ℕ) (h : ℕ → ℕ) → matching.Matching 32 64 ds h → matching.Covering 32 64 ds bidders items h → Covers ds bidders items h
 unfolding matching.Fair
-covers ds rakers pans h m c = record { wanted = m .fair; once = m .once; placed = c .placed; held = c .held }
+covers ds bidders items h m c = record { wanted = m .fair; once = m .once; placed = c .placed; held = c .held }
 
-pub match-or-none : (ds : List ℕ) (rakers pans : ℕ) (found : Bool) (h : ℕ → ℕ) → matching.Covered 32 64 ds rakers pans found h → MatchOrNone ds rakers pans found h
+pub match-or-none : (ds : List ℕ) (bidders items : ℕ) (found : Bool) (h : ℕ → ℕ) → matching.Covered 32 64 ds bidders items found h → MatchOrNone ds bidders items found h
 unfolding matching.Fair
-match-or-none ds rakers pans found h c =
+match-or-none ds bidders items found h c =
     record {
-      one = λ y. covers ds rakers pans h (c .matching y) (c .covering y);
+      one = λ y. covers ds bidders items h (c .matching y) (c .covering y);
       none = λ n g x. c .none n g (record { fair = x .wanted; once = x .once }) (record { placed = x .placed; held = x .held });
     }

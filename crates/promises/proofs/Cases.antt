@@ -17,7 +17,7 @@ use Rattle.agreement.specs.Calls.{reporting, ending, Ran, run}
 use Rattle.agreement.specs.Agreement.{openedWith}
 use Rattle.agreement.proofs.Examples as examples
 use Rattle.promises.specs.Cases.{Also, Reports, Cases}
-use Rattle.promises.proofs.Lettings.{lettings}
+use Rattle.promises.proofs.Tried.{tried}
 use Rattle.promises.proofs.Example6.{example6}
 
 -- 32 pans and 64 rakers: no number where lengths and amounts are in order
@@ -51,4 +51,4 @@ reports =
     }
 
 pub cases : Cases
-cases = record { lettings = lettings; example6 = example6; also = also; reports = reports }
+cases = record { tried = tried; example6 = example6; also = also; reports = reports }

@@ -22,7 +22,7 @@ demands =
       null-is-free = λ xs. refl;
       best-is = λ m p b i. refl;
       null-demanded = zeros.null-is;
-      pan-demanded = zeros.item-is;
+      item-demanded = zeros.item-is;
     }
 
 sets : Sets
@@ -44,7 +44,7 @@ sets =
 
 names : Names
 unfolding isAssignment fits total floorTotal
-names = record { naming-is = λ m n xs. refl; fits-is = λ m above ds xs. refl; total-is = λ bids xs. refl; floors-are = λ floors xs. refl }
+names = record { assignment-is = λ m n xs. refl; fits-is = λ m above ds xs. refl; total-is = λ bids xs. refl; floors-are = λ floors xs. refl }
 
 rounds : (s : Sheet) → (c : Closing s) → Rounds s (c .ups) (c .downs) (c .prices)
 unfolding opening after path

@@ -35,7 +35,7 @@ use Rattle.promises.specs.Demand3Sealed.{closingSheetOf}
 use Rattle.promises.specs.Text.{text}
 use Rattle.promises.specs.Cases.{plain, six, sixth, sixthClosed, sixthReasons, Example6}
 use Rattle.promises.proofs.Demand3Sealed.{printed}
-use Rattle.promises.proofs.Lettings.{lettings}
+use Rattle.promises.proofs.Tried.{tried}
 
 -- the definitions that sheets are read and written by
 computing : Unit {0}
@@ -67,7 +67,7 @@ accepted room l = by-room sixth 42 at-42 room ∙ passed 3 (ltb room (sealedLeng
 closing-lines : closingSheetOf s ≡ sixthClosed
 unfolding computing amount row option gain gainsAt
 closing-lines =
-    let k = lettings .K1 in
+    let k = tried .K1 in
     let p : List ℕ = 2 ∷ 6 ∷ [] in
     ap (λ (u : ℕ). sealedSheet 2 3 u (close s .downs) (close s .prices) (assignmentAt s (close s .prices)) (gainsAt s (close s .prices))) (k .raised)
     ∙ ap (λ (d : ℕ). sealedSheet 2 3 2 d (close s .prices) (assignmentAt s (close s .prices)) (gainsAt s (close s .prices))) (k .lowered)
@@ -77,7 +77,7 @@ closing-lines =
 reason-lines : reasonSheet s ≡ sixthReasons
 unfolding computing reasoning roundCount reasonSheet
 reason-lines =
-    let k = lettings .K1 in
+    let k = tried .K1 in
     ap (λ (u : ℕ). joined (u + close s .downs) λ j. reasonLine (j + 1) (reasonAt s j)) (k .raised)
     ∙ ap (λ (d : ℕ). joined (2 + d) λ j. reasonLine (j + 1) (reasonAt s j)) (k .lowered)
 

@@ -4,7 +4,7 @@ pub mod Live
 pub mod Demand2
 pub mod Demand3Sealed
 pub mod Demand3Live
-pub mod Lettings
+pub mod Tried
 pub mod Example6
 pub mod Cases
 pub mod Reasons

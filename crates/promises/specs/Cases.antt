@@ -27,9 +27,9 @@ use Rattle.promises.specs.Text.{text}
 use Rattle.promises.specs.Demand3Live.{afterOpening}
 
 -- the set of these pans
-abbrev pub pans : List ℕ → ℕ
-pans [] = 0
-pans (i ∷ is) = 2 ^ (i - 1) + pans is
+abbrev pub itemSet : List ℕ → ℕ
+itemSet [] = 0
+itemSet (i ∷ is) = 2 ^ (i - 1) + itemSet is
 
 -- a sheet of these starting rents, floors and bids, a row for each raker
 abbrev pub sheet : (start floors : List ℕ) (bids : List (List ℕ)) → Sheet
@@ -61,23 +61,23 @@ six = (2 ∷ 6 ∷ []) ∷ (3 ∷ 7 ∷ []) ∷ (6 ∷ 7 ∷ []) ∷ []
 
 -- the demands of K2: {1}, {1}, {1}, {2}, {2}, {4}
 abbrev pub two : List Demand
-two = map (λ i. record { null = false; items = pans (i ∷ []) }) (1 ∷ 1 ∷ 1 ∷ 2 ∷ 2 ∷ 4 ∷ [])
+two = map (λ i. record { null = false; items = itemSet (i ∷ []) }) (1 ∷ 1 ∷ 1 ∷ 2 ∷ 2 ∷ 4 ∷ [])
 
 -- (9, 2) thrice, the bids of K9
 abbrev pub nine : List (List ℕ)
 nine = (9 ∷ 2 ∷ []) ∷ (9 ∷ 2 ∷ []) ∷ (9 ∷ 2 ∷ []) ∷ []
 
-pub record Lettings : Type 0 where
+pub record Tried : Type 0 where
   pub K1 : Closes (plain (4 ∷ 4 ∷ []) six) 2 2 (2 ∷ 6 ∷ []) (0 ∷ 2 ∷ 1 ∷ [])
   -- #104: "From (4,4) example 6 takes 4 falls and 2 rises"
   pub K1-falling-first : ClosesFalling (plain (4 ∷ 4 ∷ []) six) 4 (0 ∷ 4 ∷ []) 2 (2 ∷ 6 ∷ []) (0 ∷ 2 ∷ 1 ∷ [])
   -- "rents above 0 at pans 1 and 4 of four": "rising {1,2}, S~ {1}, falling {4}"
-  pub K2-rising : excessDemand 4 two ≡ pans (1 ∷ 2 ∷ [])
-  pub K2-tilde : positiveExcessDemand 4 (pans (1 ∷ 4 ∷ [])) two ≡ pans (1 ∷ [])
-  pub K2-falling : excessSupply 4 (pans (1 ∷ 4 ∷ [])) two ≡ pans (4 ∷ [])
-  pub K3-rising : excessDemandAt (plain (0 ∷ 4 ∷ []) six) (0 ∷ 4 ∷ []) ≡ pans (1 ∷ 2 ∷ [])
-  pub K3-falling : excessSupplyAt (plain (0 ∷ 4 ∷ []) six) (0 ∷ 4 ∷ []) ≡ pans []
-  pub K4-falling : excessSupplyAt (plain (3 ∷ 3 ∷ []) ((5 ∷ 5 ∷ []) ∷ (5 ∷ 5 ∷ []) ∷ [])) (3 ∷ 3 ∷ []) ≡ pans (1 ∷ 2 ∷ [])
+  pub K2-rising : excessDemand 4 two ≡ itemSet (1 ∷ 2 ∷ [])
+  pub K2-tilde : positiveExcessDemand 4 (itemSet (1 ∷ 4 ∷ [])) two ≡ itemSet (1 ∷ [])
+  pub K2-falling : excessSupply 4 (itemSet (1 ∷ 4 ∷ [])) two ≡ itemSet (4 ∷ [])
+  pub K3-rising : excessDemandAt (plain (0 ∷ 4 ∷ []) six) (0 ∷ 4 ∷ []) ≡ itemSet (1 ∷ 2 ∷ [])
+  pub K3-falling : excessSupplyAt (plain (0 ∷ 4 ∷ []) six) (0 ∷ 4 ∷ []) ≡ itemSet []
+  pub K4-falling : excessSupplyAt (plain (3 ∷ 3 ∷ []) ((5 ∷ 5 ∷ []) ∷ (5 ∷ 5 ∷ []) ∷ [])) (3 ∷ 3 ∷ []) ≡ itemSet (1 ∷ 2 ∷ [])
   pub K4 : Closes (plain (3 ∷ 3 ∷ []) ((5 ∷ 5 ∷ []) ∷ (5 ∷ 5 ∷ []) ∷ [])) 0 3 (0 ∷ 0 ∷ []) (1 ∷ 2 ∷ [])
   pub K4-falling-first : ClosesFalling (plain (3 ∷ 3 ∷ []) ((5 ∷ 5 ∷ []) ∷ (5 ∷ 5 ∷ []) ∷ [])) 3 (0 ∷ 0 ∷ []) 0 (0 ∷ 0 ∷ []) (1 ∷ 2 ∷ [])
   -- #102: "K5 and K7 then name no pan"
@@ -126,7 +126,7 @@ fallen = reporting 1 (saying true 0) ∷ reporting 2 (saying true 0) ∷ ending 
 pub record Reports : Type 0 where
   -- #107: "In document 01's example for 16 the first report of the pan alone then gives 19"
   pub sixteen-nineteen : (lent : List ℤ) → badTables 2 lent ≡ false
-      → run (afterOpening 1 2 (5 ∷ []) (0 ∷ []) lent) fallen .answers ≡ told 0 ∷ told 0 ∷ ended (gives (lowered (pans (1 ∷ [])))) ∷ told 19 ∷ []
+      → run (afterOpening 1 2 (5 ∷ []) (0 ∷ []) lent) fallen .answers ≡ told 0 ∷ told 0 ∷ ended (gives (lowered (itemSet (1 ∷ [])))) ∷ told 19 ∷ []
   -- "and 16 still comes where tables filled anew are lent from there on"
   pub sixteen-anew : (lent : List ℤ) → badTables 2 lent ≡ false
       → run (record { auction = run (afterOpening 1 2 (5 ∷ []) (0 ∷ []) lent) fallen .last .auction; tables = flatAll 2 λ k. opening 1 })
@@ -137,7 +137,7 @@ pub record Reports : Type 0 where
       → run (afterOpening 1 2 (4095 ∷ []) (0 ∷ []) lent) (reporting 1 (saying false 1) ∷ []) .answers ≡ told 19 ∷ []
 
 pub record Cases : Type 0 where
-  pub lettings : Lettings
+  pub tried : Tried
   pub example6 : Example6
   pub also : Also
   pub reports : Reports

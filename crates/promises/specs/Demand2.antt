@@ -37,7 +37,7 @@ pub record Demands : Type 0 where
   pub best-is : (m : ℕ) (p b : List ℕ) (i : ℕ) → best m p b i ≡ each m λ j. leb (amount b j + amount p i) (amount b i + amount p j)
   -- "A raker's demand is every pan, with no pan included, of the highest gain"; but "a pan with bid 0 is never in a raker's demand" (#102)
   pub null-demanded : (m : ℕ) (p b : List ℕ) → wants (demand m p b) 0 ≡ best m p b 0
-  pub pan-demanded : (m : ℕ) (p b : List ℕ) (k : ℕ) → k < m → wants (demand m p b) (suc k) ≡ ltb 0 (amount b (suc k)) && best m p b (suc k)
+  pub item-demanded : (m : ℕ) (p b : List ℕ) (k : ℕ) → k < m → wants (demand m p b) (suc k) ≡ ltb 0 (amount b (suc k)) && best m p b (suc k)
 
 -- of m pans and any demands or reports ds; `above` are the pans of rent above their floor. A set of pans is a number, "bit i − 1 stands for pan i, and its size is the
 -- number of ones"; no pan lies outside every set
@@ -68,7 +68,7 @@ pub record Sets : Type 0 where
 -- "Names", of m pans, the pans `above` their floor, and any demands or reports ds
 pub record Names : Type 0 where
   -- "A naming gives each raker a pan or no pan; only no pan may go to several"
-  pub naming-is : (m n : ℕ) (xs : List ℕ) → isAssignment m n xs
+  pub assignment-is : (m n : ℕ) (xs : List ℕ) → isAssignment m n xs
       ≡ eqb (length xs) n && allBelow n (λ b. leb (option xs b) m) && allBelow m (λ k. leb (holders xs (suc k)) 1)
   -- "every raker gets something from their demand, no pan goes to two, and every pan of rent above 0 is let"
   pub fits-is : (m above : ℕ) (ds : List Demand) (xs : List ℕ) → fits m above ds xs

@@ -11,13 +11,13 @@ use Rattle.sets.specs.Bit.{isSet}
 
 -- `holder` gives each pan the number of the raker who holds it, or 0. It is a match that covers these rakers and pans: nobody holds a pan that they do not want, nor two
 -- pans, each of the rakers holds one, and each of the pans is held
-pub record Covers (ds : List ℕ) (rakers pans : ℕ) (holder : ℕ → ℕ) : Type 0 where
+pub record Covers (ds : List ℕ) (bidders items : ℕ) (holder : ℕ → ℕ) : Type 0 where
   pub wanted : (i : ℕ) → i < 32 → (holder i ≡ 0) ⊎ ((holder i ≤ 64) × (isSet (getD ds (holder i - 1) 0) i ≡ true))
   pub once : (i k : ℕ) → i < 32 → k < 32 → (holder i ≡ 0 → ⊥) → holder i ≡ holder k → i ≡ k
-  pub placed : (b : ℕ) → b < 64 → isSet rakers b ≡ true → (i : ℕ) × (i < 32) × (holder i ≡ b + 1)
-  pub held : (i : ℕ) → i < 32 → isSet pans i ≡ true → holder i ≡ 0 → ⊥
+  pub placed : (b : ℕ) → b < 64 → isSet bidders b ≡ true → (i : ℕ) × (i < 32) × (holder i ≡ b + 1)
+  pub held : (i : ℕ) → i < 32 → isSet items i ≡ true → holder i ≡ 0 → ⊥
 
 -- "a covering match or none". FREE is which one it is where there are several; whether one is found is not
-pub record MatchOrNone (ds : List ℕ) (rakers pans : ℕ) (found : Bool) (holder : ℕ → ℕ) : Type 0 where
-  pub one : found ≡ true → Covers ds rakers pans holder
-  pub none : found ≡ false → (other : ℕ → ℕ) → Covers ds rakers pans other → ⊥
+pub record MatchOrNone (ds : List ℕ) (bidders items : ℕ) (found : Bool) (holder : ℕ → ℕ) : Type 0 where
+  pub one : found ≡ true → Covers ds bidders items holder
+  pub none : found ≡ false → (other : ℕ → ℕ) → Covers ds bidders items other → ⊥

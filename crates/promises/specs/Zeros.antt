@@ -51,7 +51,7 @@ pub record Request102 : Type 0 where
   pub former-round : (s : Sheet) (k : ℕ) → formerRoundOf s k
       ≡ round (s .items) (aboveFloors (s .items) (s .floors) (formerPath s k .prices)) (formerDemandsAt s (formerPath s k .prices)) (formerPath s k .phase)
   -- "rents and rounds come out unchanged for every sheet": rents, phase and counts after each round, each round's kind and pans, the close
-  pub same-rents : (s : Sheet) (k : ℕ) → path s k ≡ formerPath s k
+  pub same-states : (s : Sheet) (k : ℕ) → path s k ≡ formerPath s k
   pub same-rounds : (s : Sheet) (k : ℕ) → roundOf s k ≡ formerRoundOf s k
   pub same-close : (s : Sheet) → close s ≡ formerPath s 8190
   -- at any rents, also off the path, both sets are the same

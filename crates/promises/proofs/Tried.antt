@@ -13,7 +13,7 @@ use Rattle.rule.proofs.Closing.{closing}
 use Rattle.rule.proofs.FallingClosing.{falling-closing}
 use Rattle.cases.specs.Cases as table
 use Rattle.cases.proofs.Cases as rows
-use Rattle.promises.specs.Cases.{Closes, ClosesFalling, Lettings}
+use Rattle.promises.specs.Cases.{Closes, ClosesFalling, Tried}
 
 -- a path that closes after k rounds, and another count e of which the same is known: they are the same
 module _ (at : ℕ → Round) (j k : ℕ) (closes-j : at j ≡ closed) (before-j : (i : ℕ) → i < j → at i ≡ closed → ⊥) (closes-k : at k ≡ closed) (before-k : (i : ℕ) → i < k → at i ≡ closed → ⊥) where
@@ -54,8 +54,8 @@ closes-falling s n d t u p xs k =
     }
 
 -- the rows of the table, one behind the other, each with what it finds
-pub lettings : Lettings
-lettings =
+pub tried : Tried
+tried =
     let k1 = rows.cases in
     let k2 = k1 .1 in
     let k3 = k2 .1 in
