@@ -1,9 +1,10 @@
 -- Demand 2: each round moves exactly the sets of the definitions, the letting closes if and only if both are empty, and the names are the first in order. Document 01,
 -- "The rule of a round"; definitions 2 to 6 and algorithm 1 of the paper. Every field is a sentence by itself. Assumes nothing: these are statements, which
 -- `proofs/Demand2` proves.
-use Prim.Native.Nat.{ℕ, suc, _+_, _-_, _^_, _≤_, _<_}
-use mathlib.Core.Bool.{true, _&&_, _||_, not}
-use mathlib.Core.List.{List}
+use Prim.Native.Nat.{ℕ, suc, _+_, _-_, _/_, _%_, _^_, _≤_, _<_}
+use mathlib.Core.Bool.{true, false, _&&_, _||_, not}
+use mathlib.Core.List.{List, [], _∷_}
+use mathlib.Core.Logic.{_⊎_}
 use mathlib.Core.Path.{_≡_}
 use lib.Dec.{leb, ltb, eqb}
 use lib.IntN.{ℤ}
@@ -16,7 +17,7 @@ use Rattle.rule.specs.Sheet.{Sheet, amount, row, withinLimits}
 use Rattle.rule.specs.Demand.{best, Demand, demand, demands, wants, nth}
 use Rattle.rule.specs.Excess.{bidders, nonEmptyPart, somethingIn, nothingOutside, nothingAboveOutside, overdemanded, weaklyUnderdemanded, inExcess, excessDemand, inPositiveExcess, positiveExcessDemand, excessSupply}
 use Rattle.rule.specs.Round.{raise, lower, raised, lowered, closed, path, close}
-use Rattle.rule.specs.Assignment.{option, holders, isAssignment, fits, NotAfter, assignment, total, floorTotal}
+use Rattle.rule.specs.Assignment.{option, holders, isAssignment, fits, assignment, total, floorTotal}
 use Rattle.rule.specs.Closing.{excessDemandAt, excessSupplyAt, FitsAt, assignmentAt, roundOf}
 use Rattle.lines.specs.Lines.{closingSheet, writtenTo}
 use Rattle.live.specs.Auction.{reportsOf, itemsAbove, risingSet, fallingSet}
@@ -42,6 +43,11 @@ pub record Demands : Type 0 where
 -- of m pans and any demands or reports ds; `above` are the pans of rent above their floor. A set of pans is a number, "bit i − 1 stands for pan i, and its size is the
 -- number of ones"; no pan lies outside every set
 pub record Sets : Type 0 where
+  pub null-outside : (s : ℕ) → has s 0 ≡ false
+  pub first-bit : (s : ℕ) → has s 1 ≡ eqb (s % 2) 1
+  pub next-bit : (s k : ℕ) → has s (suc (suc k)) ≡ has (s / 2) (suc k)
+  pub size-none : (s : ℕ) → size 0 s ≡ 0
+  pub size-next : (m s : ℕ) → size (suc m) s ≡ size m s + toNat (has s (suc m))
   -- "A set S of pans is in excess demand if, for each non-empty part T of S, more rakers than T has pans both demand something in T and demand nothing outside S"
   pub in-excess : (m : ℕ) (ds : List Demand) (s : ℕ) → inExcess m ds s
       ≡ allBelow (2 ^ m) λ t. nonEmptyPart m t s ⇒ ltb (size m t) (bidders ds λ d. somethingIn m t d && nothingOutside m s d)
@@ -64,6 +70,17 @@ pub record Sets : Type 0 where
   pub rising-empty : (m : ℕ) (bids : List (List ℕ)) (prices : List ℕ)
       → eqb (excessDemand m (demands m bids prices)) 0 ≡ allBelow (2 ^ m) λ s. not (overdemanded m (demands m bids prices) s)
   pub falling-empty : (m above : ℕ) (ds : List Demand) → eqb (excessSupply m above ds) 0 ≡ allBelow (2 ^ m) λ s. not (weaklyUnderdemanded m above ds s)
+
+-- "the lowest pan for raker 1, then for raker 2, and so on, where no pan ranks behind every pan": when an option ranks before another, and when the options xs of all
+-- rakers come no later than ys
+abbrev pub Ranks : ℕ → ℕ → Type 0
+Ranks x y = (0 < x) × ((y ≡ 0) ⊎ (x < y))
+
+unfoldable pub NoLater : List ℕ → List ℕ → Type 0
+NoLater [] [] = Unit {0}
+NoLater [] (y ∷ ys) = ⊥
+NoLater (x ∷ xs) [] = ⊥
+NoLater (x ∷ xs) (y ∷ ys) = Ranks x y ⊎ ((x ≡ y) × NoLater xs ys)
 
 -- "Names", of m pans, the pans `above` their floor, and any demands or reports ds
 pub record Names : Type 0 where
@@ -98,13 +115,13 @@ pub record Rounds (s : Sheet) (u d : ℕ) (p : List ℕ) : Type 0 where
   pub not-before : (k : ℕ) → k < u + d → roundOf s k ≡ closed → ⊥
   pub stays : (k : ℕ) → path s (u + d + k) ≡ path s (u + d)
   pub at-close : path s (u + d) ≡ close s
-  -- the closing prices leave neither set, and of all namings that fit there "take the one with the lowest pan for raker 1, then for raker 2, and so on, where no pan
-  -- ranks behind every pan": it fits, comes before every other that does, and no other does
+  -- the closing prices leave neither set. "Of all such namings take the one with the lowest pan for raker 1, then for raker 2, and so on": it fits, comes before every
+  -- other that does, and no other does
   pub no-excess : excessDemandAt s p ≡ 0
   pub no-supply : excessSupplyAt s p ≡ 0
   pub names-fit : FitsAt s p (assignmentAt s p)
-  pub names-first : (xs : List ℕ) → FitsAt s p xs → NotAfter (assignmentAt s p) xs
-  pub names-only : (xs : List ℕ) → FitsAt s p xs → ((ys : List ℕ) → FitsAt s p ys → NotAfter xs ys) → xs ≡ assignmentAt s p
+  pub names-first : (xs : List ℕ) → FitsAt s p xs → NoLater (assignmentAt s p) xs
+  pub names-only : (xs : List ℕ) → FitsAt s p xs → ((ys : List ℕ) → FitsAt s p ys → NoLater xs ys) → xs ≡ assignmentAt s p
 
 -- a record without reports: the counts and floors of r, at these prices and in this phase, with so many rounds raised and lowered
 abbrev pub emptied : (r : Auction) (prices : List ℕ) (phase : Phase) (raised lowered : ℕ) → Auction
