@@ -1,6 +1,6 @@
 -- From the contracts of the public calls to what `src` says of their outcomes and of lent lists. Assumes nothing.
-use Prim.Native.Nat.{ℕ, zero, suc}
-use mathlib.Core.Path.{_≡_, refl, sym, ap, _∙_, subst}
+use Prim.Native.Nat.{ℕ}
+use mathlib.Core.Path.{_≡_, sym, ap, _∙_, subst}
 use mathlib.Core.Bool.{Bool, true}
 use mathlib.Core.List.{List, [], _∷_}
 use Rattle.sets.specs.Lists.{places}
@@ -17,6 +17,7 @@ use Rattle.auction.specs.Sealed.{closed, sealedOf, sealedAboveOf, fallingFirstO
 use Rattle.auction.proofs.Sealing as sealing
 use Rattle.auction.specs.declared.Closing.{Closing}
 use Rattle.sheet.specs.Close.{byNumber}
+use Rattle.sheet.proofs.Ends.{by-some}
 use Rattle.dewgneiss.specs.Lent.{lentRefusal, lentAboveRefusal}
 use Rattle.live.specs.declared.Auction.{Auction}
 use Rattle.bench_exports.specs.Lent as bench
@@ -65,11 +66,6 @@ least m bids base p l = record { from-base = l .least .above; no-excess = l .lea
 
 -- ---- into lent lists
 
--- under a number a list is as it came
-kept : (why : ℕ) (given before after : List ℕ) → after ≡ byNumber why given before → (why ≡ 0 → ⊥) → after ≡ before
-kept zero given before after e ne = absurd (ne refl)
-kept (suc j) given before after e ne = e
-
 module _ (s : Sheet) (t : State) (r : Closing) (m n why : ℕ) (rounds prices options gains rounds′ prices′ options′ gains′ : List ℕ)
     (er : rounds′ ≡ byNumber why (r .raised ∷ r .lowered ∷ []) rounds)
     (ep : prices′ ≡ byNumber why (places m (r .prices)) prices)
@@ -83,10 +79,10 @@ module _ (s : Sheet) (t : State) (r : Closing) (m n why : ℕ) (rounds prices op
         prices-are = λ z. back z .priced;
         names-are = λ z. back z .named;
         gains-are = λ z. back z .gained;
-        rounds-kept = kept why _ rounds rounds′ er;
-        prices-kept = kept why _ prices prices′ ep;
-        names-kept = kept why _ options options′ eo;
-        gains-kept = kept why _ gains gains′ eg;
+        rounds-kept = λ ne. er ∙ by-some why ne _ rounds;
+        prices-kept = λ ne. ep ∙ by-some why ne _ prices;
+        names-kept = λ ne. eo ∙ by-some why ne _ options;
+        gains-kept = λ ne. eg ∙ by-some why ne _ gains;
       }
 
 module _ (m n : ℕ) (start floors bids rounds prices options gains rounds′ prices′ options′ gains′ : List ℕ) (why : ℕ) where

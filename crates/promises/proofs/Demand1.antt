@@ -12,7 +12,8 @@ use Rattle.bids.specs.Refusal.{sealedRefusal, sealedAboveRefusal}
 use Rattle.bids.specs.Line.{lineRefusal, shown, lineShown}
 use Rattle.bids.proofs.Showing as showing
 use Rattle.auction.specs.Sealed.{refused, closed, fallingClosed, outcome, sealedOf, sealedAboveOf, fallingFirstOf}
-use Rattle.sheet.specs.Close.{sheetRefusal, byNumber, closedTo, closingOf, bidSheetOf}
+use Rattle.sheet.specs.Close.{sheetRefusal, closedTo, closingOf, bidSheetOf}
+use Rattle.sheet.proofs.Ends.{by-some}
 use Rattle.sheet.specs.Contents.{bidSheetRefusal, contents, contentsOf}
 use Rattle.dewgneiss.specs.Lent.{unfit as unfitLists, lentRefusal, lentAboveRefusal}
 use Rattle.live.specs.Auction.{hasReported, missing, countsFit, pricesFit, floorsFit, fromFloors, unusedPrices, unusedFloors, unusedPlaces, unusedBits, reportedFit, othersEmpty, roundsFit, closeFits, wellFormed}
@@ -65,11 +66,7 @@ order =
 
 sheet-before : (bytes out : List ℕ) → (sheetRefusal bytes (length out) ≡ 0 → ⊥) → closedTo bytes out ≡ out
 unfolding closedTo
-sheet-before bytes out ne = go (sheetRefusal bytes (length out)) ne
-  where
-    go : (x : ℕ) → (x ≡ 0 → ⊥) → byNumber x (writtenTo out (closingOf (bidSheetOf bytes))) out ≡ out
-    go zero h = absurd (h refl)
-    go (suc j) h = refl
+sheet-before bytes out ne = by-some (sheetRefusal bytes (length out)) ne (writtenTo out (closingOf (bidSheetOf bytes))) out
 
 lent-before : (x m n : ℕ) (lent : List ℤ) → (x ≡ 0 → ⊥) → filledBy x m n lent ≡ lent
 unfolding filledBy

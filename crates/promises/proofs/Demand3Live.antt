@@ -1,6 +1,6 @@
 -- Demand 3 of live letting, from the theorems of `agreement`. Assumes nothing.
-use Prim.Native.Nat.{ℕ, zero, suc}
-use mathlib.Core.Path.{_≡_, refl, ap, _∙_}
+use Prim.Native.Nat.{ℕ}
+use mathlib.Core.Path.{_≡_, refl, sym, ap, _∙_}
 use mathlib.Core.Bool.{Bool, true, _&&_, not}
 use mathlib.Core.List.{List, [], _∷_, _++_}
 use lib.Dec.{eqb}
@@ -15,7 +15,7 @@ use Rattle.lines.specs.Lines.{amountsLine, writtenTo}
 use Rattle.sheet.specs.Close.{sheetRefusal, byNumber, closedTo}
 use Rattle.sheet.specs.Accepted.{sheetIn}
 use Rattle.live.specs.declared.Auction.{Auction}
-use Rattle.live.specs.Calls.{openAuction, openAbove, openedBy, unopened, gives, refused, openAboveNumber}
+use Rattle.live.specs.Calls.{openAuction, openAbove, gives, refused, openAboveNumber}
 use Rattle.agreement.specs.Calls.{Call, Answer, told, ended, shown, Held}
 use Rattle.agreement.specs.Machine.{Machine, at, threeLines}
 use Rattle.agreement.specs.Agreement as claim
@@ -24,6 +24,7 @@ use Rattle.agreement.specs.Sheets.{gainsLine}
 use Rattle.agreement.proofs.Agreement as agreeing
 use Rattle.agreement.proofs.Always as always
 use Rattle.agreement.proofs.Sheets as sheets
+use Rattle.promises.proofs.Live.{opened-is}
 use Rattle.promises.specs.Demand3Live.{lines, given, Without, ClosesAs, Fit, Agrees, Demand3Live}
 
 -- the rounds of the answers, and a number that is not among them, are as `agreement` has them
@@ -46,11 +47,6 @@ without n (ended (gives r) ∷ rest) e = without n rest (and-right (not (eqb 0 n
 without n (ended (refused x) ∷ rest) e = (other n x (never n rest) e, without n rest (and-right (not (eqb x n)) (never n rest) e))
 without n (shown x out ∷ rest) e = (other n x (never n rest) e, without n rest (and-right (not (eqb x n)) (never n rest) e))
 
-opened-by : (x m n : ℕ) (start floors : List ℕ) → openedBy x m n start floors .number ≡ 0 → x ≡ 0
-unfolding openedBy unopened
-opened-by zero m n start floors e = refl
-opened-by (suc j) m n start floors e = e
-
 pub closes-as : (s : Sheet) (r : Auction) → claim.ClosedAs s r → ClosesAs s r
 unfolding threeLines
 closes-as s r c =
@@ -67,7 +63,7 @@ agrees : (s : Sheet) (lent : List ℤ) (calls : List Call) (theirs : List Answer
 unfolding openedWith openingOf openAbove liveRun standsFor tablesOf allRounds at
 agrees s lent calls theirs t g =
     record {
-      opens = opened-by (openAboveNumber (s .items) (length (s .bids)) (s .start) (s .floors) lent) (s .items) (length (s .bids)) (s .start) (s .floors) (g .opens);
+      opens = sym (opened-is (openAboveNumber (s .items) (length (s .bids)) (s .start) (s .floors) lent) (s .items) (length (s .bids)) (s .start) (s .floors)) ∙ g .opens;
       same-answers = g .same-answers;
       same-record = g .same-record;
       same-tables = g .same-tables;
@@ -94,10 +90,6 @@ fit h s = record { places-64 = s .placed; places-32 = s .floored; well-formed = 
 sound : (h : Held) → Fit h → always.Sound h
 sound h f = record { placed = f .places-64; floored = f .places-32; well-formed = f .well-formed; long = f .tables-long; fit = f .tables-fit }
 
-opened-number : (x m n : ℕ) (start floors : List ℕ) → x ≡ 0 → openedBy x m n start floors .number ≡ 0
-unfolding openedBy
-opened-number x m n start floors e = ap (λ (y : ℕ). openedBy y m n start floors .number) e
-
 sealed-lines : (bytes out : List ℕ) → sheetRefusal bytes (length out) ≡ 0
     → closedTo bytes out ≡ writtenTo out (lines (sheetIn bytes) ++ amountsLine (length (sheetIn bytes .bids)) (gainsAt (sheetIn bytes) (close (sheetIn bytes) .prices)))
 unfolding threeLines gainsLine
@@ -110,8 +102,8 @@ unfolding openAuction openAbove openedWith
 demand3-live =
     record {
       agreement = λ s e few lent fit calls theirs t q. agrees s lent calls theirs t (agreeing.agreement s e few lent fit calls theirs t q);
-      fit-opened = λ m n start lent e. fit _ (always.open-sound m n start lent (opened-number _ m n start (replicate m 0) e));
-      fit-opened-above = λ m n start floors lent e. fit _ (always.above-sound m n start floors lent (opened-number _ m n start floors e));
+      fit-opened = λ m n start lent e. fit _ (always.open-sound m n start lent (opened-is _ m n start (replicate m 0) ∙ e));
+      fit-opened-above = λ m n start floors lent e. fit _ (always.above-sound m n start floors lent (opened-is _ m n start floors ∙ e));
       fit-called = λ h f c. fit _ (always.keeps h (sound h f) c);
       fit-after = λ h f calls. fit _ (always.keeps-all h (sound h f) calls);
       never-eleven = λ h f calls. without 11 _ (always.never-eleven h (sound h f) calls);

@@ -1,5 +1,5 @@
 -- Demand 3 of sealed letting, from the theorems of `rule` and `sheet`. Assumes nothing.
-use Prim.Native.Nat.{ℕ, zero, suc, _≤_}
+use Prim.Native.Nat.{ℕ, _≤_}
 use mathlib.Core.Path.{_≡_, refl, sym, ap, _∙_, subst}
 use mathlib.Core.Bool.{Bool, true, cond}
 use mathlib.Core.List.{List, []}
@@ -26,6 +26,7 @@ use Rattle.lines.proofs.ReadBack as back
 use Rattle.sheet.specs.Writing.{bidLine, bidSheet}
 use Rattle.sheet.specs.Close.{bidSheetOf, sheetRefusal, byNumber, closingOf, answerOf}
 use Rattle.sheet.specs.Accepted.{sheetIn, sheetOfClosing}
+use Rattle.sheet.proofs.Ends.{by-some}
 use Rattle.sheet.proofs.ReadWritten as written
 use Rattle.sheet.proofs.Sixes as sixes
 use Rattle.sheet.proofs.Longer as longer
@@ -89,11 +90,7 @@ number-printed : (bytes : List ℕ) (room : ℕ) → 3 ≤ room → (sheetRefusa
 unfolding answerOf
 number-printed bytes room l ne =
     ap (λ (b : Bool). cond b [] (byNumber (sheetRefusal bytes room) (closingOf (bidSheetOf bytes)) (numberLine (sheetRefusal bytes room)))) (le-ltb room 3 l)
-    ∙ go (sheetRefusal bytes room) ne
-  where
-    go : (x : ℕ) → (x ≡ 0 → ⊥) → byNumber x (closingOf (bidSheetOf bytes)) (numberLine x) ≡ numberLine x
-    go zero h = absurd (h refl)
-    go (suc j) h = refl
+    ∙ by-some (sheetRefusal bytes room) ne (closingOf (bidSheetOf bytes)) (numberLine (sheetRefusal bytes room))
 
 sheets : Sheets
 unfolding digit hex newline numberText numberLine amountsLine closingSheet bidLine bidSheet sheetIn writtenTo

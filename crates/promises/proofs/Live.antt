@@ -11,7 +11,7 @@ use Rattle.rule.specs.Round.{Round, raised, lowered, closed}
 use Rattle.rule.proofs.Refusal.{none}
 use Rattle.live.specs.Auction.{wellFormed, missing, risingSet, fallingSet}
 use Rattle.live.specs.Tables.{badTables, tablesFit, anyUnexplained}
-use Rattle.live.specs.Calls.{isClosed, isFalling, opened, openedBy, openAbove, withReport, report, cleared, clear, roundBy, settled, moveOf, endingOf, Ending, gives, refused, endNumber, endAnswer, endNext}
+use Rattle.live.specs.Calls.{isClosed, isFalling, opened, unopened, openedBy, openAbove, withReport, report, cleared, clear, roundBy, settled, moveOf, endingOf, Ending, gives, refused, endNumber, endAnswer, endNext}
 use Rattle.live.specs.Reading.{namesOf, sheetOf, readBytes}
 use Rattle.live.specs.declared.Auction.{Auction}
 use Rattle.live.specs.declared.Phase.{Phase}
@@ -20,6 +20,12 @@ use Rattle.live.proofs.Ending as ending
 use Rattle.agreement.proofs.Endings as endings
 use Rattle.lines.specs.Lines.{writtenTo}
 use Rattle.promises.specs.Demand2.{Live}
+
+-- an opening is answered its number
+pub opened-is : (x m n : ℕ) (start floors : List ℕ) → openedBy x m n start floors .number ≡ x
+unfolding openedBy unopened
+opened-is zero m n start floors = refl
+opened-is (suc j) m n start floors = refl
 
 pub no-round : (x : Round) (n : ℕ) → gives x ≡ refused n → ⊥
 no-round x n e = let z : _≡_ {A = ℕ} 0 1 = cc in omega arith
