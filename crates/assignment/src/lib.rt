@@ -1,6 +1,8 @@
 // The first assignment in order: bidder after bidder, the lowest item that the later bidders can complete, and null if there is none.
 // The matching finds one complete assignment, and of it this crate uses only what it promises. Then each bidder in turn looks for the places from
 // which what it has can be reached, takes the lowest of them that it demands, and the bidders on the way there move up.
+#![tactic(auto)]
+
 ghost use Rattle.std.specs.Prelude.{◌≡◌, true, false, ◌&&◌, ◌||◌, [], ◌∷◌, ◌++◌, ◌⊎◌, ℕ, ◌+◌, ◌-◌, ◌*◌, ◌≤◌, ◌<◌, length, get_or, set, replicate};
 ghost use Rattle.sets.specs.Bit.{is_set, has, set_of, lowest};
 ghost use Rattle.sets.specs.Lists.{places};

@@ -1,6 +1,8 @@
 // The live calls on a record in lent lists, and the writing of a closing sheet, for the benchmark and the comparison to link. A record is lent as its numbers
 // (items, bidders, the bidders who say null, the bidders who have reported), its prices, its floors, its item sets, and its rounds (raised, lowered, and the
 // phase: 0 rising, 1 falling, 2 closed); each call leaves the next record there. The tables are lent behind it.
+#![tactic(auto)]
+
 ghost use Rattle.std.specs.Prelude.{◌≡◌, length};
 ghost use Rattle.lines.specs.Lines.{closing_sheet, closing_length, writes, after_writing};
 ghost use Rattle.reports.specs.Report.{saying};

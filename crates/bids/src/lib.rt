@@ -1,4 +1,6 @@
 // The lent numbers of a sheet: what turns them down, and a bidder's line of the bids.
+#![tactic(auto)]
+
 ghost use Rattle.std.specs.Prelude.{◌≡◌, ◌*◌, ◌≤◌};
 ghost use Rattle.bids.specs.Refusal.{sealed_refusal, sealed_above_refusal};
 ghost use Rattle.bids.specs.Line.{row_shown, row_start, line_refusal, line_shown, line_start, starts_at};

@@ -1,4 +1,6 @@
 // Reads a bid sheet from standard input and prints its closing sheet, or the number that turned it down.
+#![tactic(auto)]
+
 use libc::{STDIN_FILENO, STDOUT_FILENO};
 
 fn main() {

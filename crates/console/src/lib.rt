@@ -3,6 +3,8 @@
 // `o` + 2 hexadecimal digits items + 2 bidders + 4 for each starting price opens; `f` opens with floors, 4 digits for each behind those of the starting
 // prices; `r` + 2 digits bidder + 01 or 00 for null + 8 digits item set reports; `e` ends the round; `c` clears the reports; `s` reads the close. Any other
 // line is answered 06.
+#![tactic(auto)]
+
 ghost use Rattle.std.specs.Prelude.{◌≡◌, true, ◌++◌, ◌+◌, ◌*◌, ◌-◌, ◌≤◌, ◌<◌, min, length, get_or, take, drop};
 ghost use Rattle.std.proofs.Math.Option;
 ghost use Rattle.std.proofs.lemmas.List.Edits.{sets};

@@ -1,4 +1,6 @@
 // What bidders demand at prices.
+#![tactic(auto)]
+
 ghost use Rattle.std.specs.Prelude.{◌≡◌, ◌&&◌, ◌+◌, ◌≤◌, ltb, eqb, length};
 ghost use Rattle.rule.specs.Demand.{surplus, demand};
 ghost use Rattle.demands.specs.Demands.{surplus_of, complete, demands_of, surpluses_of, held};

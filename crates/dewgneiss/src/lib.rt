@@ -1,4 +1,6 @@
 // The sealed auction, the sheets and the tables, for Rust or C to link: a slice is passed as its address and its length.
+#![tactic(auto)]
+
 pub mod tables; // tables.rt: one bidder's table of differences
 
 ghost use Rattle.std.specs.Prelude.{◌≡◌, [], ◌∷◌, ◌≤◌, length};

@@ -1,4 +1,6 @@
 // Numbers in hexadecimal digits: read from bytes, and written to lent ones.
+#![tactic(auto)]
+
 ghost use Rattle.std.specs.Prelude.{◌≡◌, cond, ◌+◌, ◌≤◌, ◌<◌, leb, length};
 ghost use Rattle.std.proofs.Math.Option.{get_or};
 ghost use Rattle.std.proofs.lemmas.List.Edits.{sets};

@@ -5,6 +5,8 @@
 // Prices and holders that then balance fall to the least that do, in one more search. From there prices rise to the close, and from the close to the turn.
 //
 // Arrays have 64 places, for items or for bidders. Item i has place i - 1; a holder is a bidder counted from 1, or 0.
+#![tactic(auto)]
+
 ghost use Rattle.std.specs.Prelude.{◌≡◌, Bool, true, false, ◌||◌, List, ℕ, ◌+◌, ◌-◌, ◌*◌, ◌≤◌, ◌<◌, max, length, get_or, set, replicate, eqb};
 ghost use Rattle.sets.specs.Bit.{has, set_of};
 ghost use Rattle.sets.specs.Lists.{places};

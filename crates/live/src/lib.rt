@@ -1,4 +1,6 @@
 // The live auction (document 01: the live letting): the record, and what a call on it hands back.
+#![tactic(auto)]
+
 mod tables; // tables.rt: the lent tables of all bidders
 mod well_formed; // well_formed.rt: number 11
 

@@ -1,5 +1,7 @@
 // The live auction on standard input and output: each line is answered at once, and the record and the tables are kept between. Before any opening the record
 // is the one of zeros. A line of more than 4,096 bytes is none of the console's lines; a last line without a newline is answered like any other.
+#![tactic(auto)]
+
 ghost use Rattle.std.specs.Prelude.{length};
 ghost use Rattle.io.specs.Counts.{IsPrefixLen};
 

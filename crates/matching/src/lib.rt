@@ -1,5 +1,7 @@
 // The matching of bidders to items, over demand sets. Items and bidders are numbered from 1: place b - 1 of `demand` has the set of bidder b,
 // and place i - 1 of `holder` the bidder that holds item i, or 0 if nobody does.
+#![tactic(auto)]
+
 ghost use Rattle.std.specs.Prelude.{◌≡◌, true, false, ◌&&◌, ℕ, ◌+◌, ◌-◌, ◌≤◌, ◌<◌, get_or, set, replicate, eqb};
 ghost use Rattle.sets.specs.Bit.{is_set, has, lowest};
 ghost use Rattle.matching.specs.Demand.{largest_excess, Covered};

@@ -2,6 +2,7 @@
 // from item 1 through all 32 items to the last, which is free. Bidders 33 to 64 want item 32 alone: the chain of the first of them runs back
 // through all items and fails. Prints a line for 32 bidders and a line for 64: the largest set in excess demand, whether a match covers
 // all items and the bidders named, and who holds items 1 to 32. Of the 64, bidders 1 to 31 and 64 are named: in both there is only one match.
+#![tactic(auto)]
 
 fn say(n: u64) {
     io::write_all(1, b" ");

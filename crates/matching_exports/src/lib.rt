@@ -1,4 +1,6 @@
 // The matching's two public functions for Rust or C to link, as the benchmark does.
+#![tactic(auto)]
+
 ghost use Rattle.std.specs.Prelude.{◌≡◌, ℕ};
 ghost use Rattle.matching.specs.Demand.{largest_excess, Covered};
 

@@ -2,6 +2,7 @@
 // fourth, who wants item 1, sets off a chain that comes round to item 1, which it does not enter twice: treated as a tree, the chain would go
 // round for ever. Prints one line for three bidders and one for four: the largest set in excess demand, whether a match covers bidders and
 // items (which match is free), and who holds items 1 to 3.
+#![tactic(auto)]
 
 fn say(n: u64) {
     io::write_all(1, b" ");

@@ -1,5 +1,7 @@
 // What is done with prices alone. They stand in 32 places; where there are fewer items, the places past them hold zeros, and the laws of proofs/
 // carry each result over.
+#![tactic(auto)]
+
 ghost use Rattle.std.specs.Prelude.{◌≡◌, ◌+◌, ◌-◌, ◌≤◌, min, max, ltb, length, get_or};
 ghost use Rattle.sets.specs.Count.{to_nat, any_below};
 ghost use Rattle.sets.specs.Lists.{places};

@@ -1,4 +1,6 @@
 // Reads a bid sheet from standard input and prints its sheet of reasons, or the number that turned it down.
+#![tactic(auto)]
+
 use libc::{STDIN_FILENO, STDOUT_FILENO};
 
 // 8,190 rounds, the most there are, take 253,890 bytes.

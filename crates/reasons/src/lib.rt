@@ -1,4 +1,6 @@
 // The sheet of reasons: why each round of a bid sheet's path moved its set.
+#![tactic(auto)]
+
 ghost use Rattle.std.specs.Prelude.{◌≡◌, cond, ◌+◌, ◌*◌, ◌≤◌, length, replicate};
 ghost use Rattle.std.proofs.lemmas.List.Edits.{sets};
 ghost use Rattle.rule.specs.Demand.{demands, surpluses};

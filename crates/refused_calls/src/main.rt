@@ -1,6 +1,8 @@
 // The calls of the live auction and a bidder's line, run on every number that turns them down, on every kind of damaged record and on every kind of damaged
 // table. The file `stdin` has a call a line: a letter, what is asked in words, and the arguments. The program writes the words again, and what was given. What
 // must be given stands in the file `stdout`, which was written from documents 01 and 02 and not from a run.
+#![tactic(auto)]
+
 mod asked; // asked.rt: a line of the input
 mod calls; // calls.rt: open, open with floors, report, end, clear and read
 mod line; // line.rt: a bidder's line

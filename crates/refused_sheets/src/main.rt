@@ -1,6 +1,8 @@
 // The two answers to a bid sheet, its closing sheet and its sheet of reasons, run on every number that turns a sheet down. The file `stdin` has 128 bytes for each
 // case: a line with what is asked in words and, in two hexadecimal digits, how many of the following 82 bytes are the sheet. The program writes that line again,
 // and both answers. What must be written stands in the file `stdout`, which was written from documents 01 and 02 and not from a run.
+#![tactic(auto)]
+
 ghost use Rattle.io.specs.Counts.{IsPrefixLen};
 
 use digits::Number;

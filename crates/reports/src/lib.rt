@@ -1,5 +1,7 @@
 // What the live auction asks of the reports of a round (document 01: the live letting): which report 8 refuses, whether every place holds
 // what it may, and whether a report is missing. Any counts are taken, and any number of places.
+#![tactic(auto)]
+
 ghost use Rattle.std.specs.Prelude.{◌≡◌, ◌&&◌, suc, leb};
 ghost use Rattle.sets.specs.Count.{any_below};
 ghost use Rattle.sets.specs.Bit.{has};

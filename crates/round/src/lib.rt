@@ -1,6 +1,8 @@
 // What the rule of a round makes of reports, and the items of price above the floor. The reports are held as an item set for each of 64 bidders and the
 // set of the bidders who say null; prices stand in 32 places. Where there are fewer items and bidders, the places past them hold zeros, and the laws
 // of proofs/ carry each result over.
+#![tactic(auto)]
+
 ghost use Rattle.std.specs.Prelude.{◌≡◌, cond, ◌&&◌, ◌||◌, ℕ, ◌+◌, eqb, get_or};
 ghost use Rattle.sets.specs.Bit.{has, set_of};
 ghost use Rattle.sets.specs.Lists.{tabulate};

@@ -1,4 +1,6 @@
 // Bid sheet in, and out either what it says, by value, or its closing sheet. The bytes are not copied: reading goes on at a place of the lent bytes.
+#![tactic(auto)]
+
 ghost use Rattle.std.specs.Prelude.{◌≡◌, false, [], ◌+◌, ◌*◌, ◌^◌, ◌≤◌, ◌<◌, length, take, replicate};
 ghost use Rattle.std.proofs.Math.Option.{some};
 ghost use Rattle.digits.specs.Reading.{number_in, as_number};
