@@ -1,0 +1,28 @@
+-- `prices::any_under` meets its contract. Assumes nothing.
+use Prim.Native.Nat.{ℕ, ◌-◌}
+use mathlib.Core.Path.{sym, ap, ◌∙◌}
+use mathlib.Core.List.{List}
+use native.Mathlib.Omega.{arith}
+use lib.Dec.{ltb}
+use lib.ListN.{length, get_or, drop, length-drop}
+use lib.Seq.{take_all}
+use Rattle.sets.specs.Count.{any_below}
+use Rattle.prices.proofs.Amounts.{under_first, under_rest}
+use borrow.Author.Rules.{rules}
+use Rattle.prices.proofs.any_under.Goals as goal
+
+pub first_under-requires : goal.first_under-requires
+first_under-requires c = (omega (arith, c.fewer-n.ensures), omega (arith, c.fewer-n.ensures))
+
+pub returns-then-first_under : goal.returns-then-first_under
+returns-then-first_under c =
+    let a = c.args in
+    under_first a.prices.now a.floors.now c.fewer-n.result c.fewer-n.ensures (sym c.first_under.ensures ∙ c.if-first_under.true)
+
+pub returns : goal.returns
+returns c =
+    let a = c.args in
+    let n = c.fewer-n.result in
+    let rest = take_all (length a.floors.now - n) (drop n a.floors.now) (omega (arith, length-drop {A = ℕ} n a.floors.now)) in
+    under_rest a.prices.now a.floors.now n c.fewer-n.ensures (sym c.first_under.ensures ∙ c.if-first_under.false) c.any_past.result
+    (c.any_past.ensures ∙ ap (λ (xs : List ℕ). any_below (length xs) (λ k. ltb 0 (get_or xs k 0))) rest)

@@ -1,0 +1,9 @@
+-- `reports::holds_beyond` meets its contract. Assumes nothing.
+use borrow.Author.Rules.{rules}
+use Rattle.reports.proofs.Laws.{beyond-any}
+use Rattle.reports.proofs.holds_beyond.Goals as goal
+
+pub returns : goal.returns
+returns c =
+    let a = c.args in
+    beyond-any a.items a.set c.first_items.result c.other_items.result c.first_items.ensures c.other_items.ensures

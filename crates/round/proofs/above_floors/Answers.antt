@@ -1,0 +1,41 @@
+-- `round::above_floors` meets its contract. Each turn adds one item, if its price is above the floor. Assumes nothing.
+use Prim.Native.Nat.{ℕ, ◌+◌, ◌-◌, ◌≤◌}
+use mathlib.Core.Path.{◌≡◌, refl, sym, ap, ap₂}
+use mathlib.Core.List.{List}
+use native.Mathlib.Omega.{arith}
+use native.Mathlib.Numerals.{add-one}
+use lib.Dec.{ltb}
+use lib.ListN.{get_or}
+use Rattle.sets.specs.Bit.{set_of}
+use Rattle.rule.specs.Sheet.{amount}
+use Rattle.rule.specs.Excess.{above_floors}
+use Rattle.round.proofs.Adding.{add-next, add-end}
+use borrow.Author.Rules.{rules}
+use Rattle.round.proofs.above_floors.Goals as goal
+
+-- item k + 1 has the price at place k
+amount-next : (p : List ℕ) (k : ℕ) → amount p (k + 1) ≡ get_or p k 0
+unfolding amount
+amount-next p k = ap (amount p) (add-one k)
+
+pub loop-i-init : goal.loop-i-init
+unfolding set_of
+loop-i-init c = (omega arith, refl)
+
+pub loop-i-preserved : goal.loop-i-preserved
+loop-i-preserved c =
+    let a = c.args in
+    let at = c.loop-i in
+    let lt = c.loop-i-test.true in (
+      omega arith,
+      add-next 32 (λ j. ltb (amount a.floors.now j) (amount a.prices.now j)) at.i lt at.s
+          (ltb (get_or a.floors.now at.i 0) (get_or a.prices.now at.i 0)) c.add_item-s.result at.invariant.1
+          (sym (ap₂ ltb (amount-next a.floors.now at.i) (amount-next a.prices.now at.i))) c.add_item-s.ensures,
+    )
+
+pub returns : goal.returns
+unfolding above_floors
+returns c =
+    let a = c.args in
+    let at = c.loop-i in
+    add-end (λ j. ltb (amount a.floors.now j) (amount a.prices.now j)) at.i 32 at.s at.invariant.1 at.invariant.0 c.loop-i-test.false
