@@ -1,0 +1,15 @@
+-- `demands::demands_at` meets its contract. Each turn collects one bidder's demand. Assumes nothing.
+use Prim.Native.Nat.{◌-◌}
+use mathlib.Core.Path.{sym, ◌∙◌}
+use native.Mathlib.Omega.{arith}
+use lib.ListN.{length}
+use borrow.Author.Tests.{not-true, not-false}
+use Rattle.demands.proofs.Demanding.{Complete, is-complete, nobody, Collected, collect-start, line-short, collect-next, collect-end}
+use borrow.Author.Rules.{rules}
+use Rattle.demands.proofs.demands_at.Given as goal
+
+abbrev pub invariant-loop-b : goal.invariant-loop-b
+invariant-loop-b l = Complete l.items l.bidders (length l.bids) × Collected l.items l.bidders l.prices l.bids l.sets l.nulls l.surpluses l.b
+
+abbrev pub decreases-loop-b : goal.decreases-loop-b
+decreases-loop-b l = l.bidders - l.b
