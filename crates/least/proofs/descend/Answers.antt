@@ -1,0 +1,54 @@
+-- `least::descend` meets its contract: each turn enters the nearest item, until none is left. Assumes nothing.
+use Prim.Native.Nat.{ℕ}
+use mathlib.Core.Path.{ap, ◌∙◌}
+use native.Mathlib.Omega.{arith}
+use lib.ListN.{length, length-replicate}
+use Rattle.least.specs.Putting.{left_count}
+use Rattle.least.proofs.Descending.{Falling, fall-lowest, fall-start, fall-small, fall-end, fall-holder, fall-enters, fall-fewer, fall-nearest, fall-next}
+use borrow.Author.Rules.{rules}
+use Rattle.least.proofs.descend.Goals as goal
+
+pub relax-low-requires : goal.relax-low-requires
+relax-low-requires c =
+    let d = c.requires.0 in
+    (omega (arith, d.long, d.standing.table.max_items), d.standing.small, omega arith, ap length c.requires.1 ∙ length-replicate {A = ℕ} 64 16384, ap length c.requires.2 ∙ length-replicate {A = ℕ} 64 0)
+
+pub nearest-next-requires : goal.nearest-next-requires
+nearest-next-requires c =
+    let d = c.requires.0 in
+    let low = fall-lowest d c.relax-low.new.dist c.args.left.now c.relax-low.result c.requires.3 c.relax-low.ensures.1 in
+    (d.standing.table.max_items, low.0, low.1)
+
+pub loop-next-init : goal.loop-next-init
+loop-next-init c =
+    let a = c.args in
+    fall-start c.requires.0 a.dist.now a.via.now a.left.now c.requires.1 c.requires.2 c.requires.3 c.relax-low.new.dist c.relax-low.new.via c.relax-low.ensures.0 c.nearest-next.result c.nearest-next.ensures
+
+pub at-h-requires : goal.at-h-requires
+at-h-requires c = fall-small c.requires.0 c.loop-next.invariant
+
+pub overflow_sub-h : goal.overflow_sub-h
+overflow_sub-h c = omega (arith, (fall-holder c.requires.0 c.loop-next.invariant (omega (arith, c.loop-next-test.true)) c.at-h.result c.at-h.ensures).0)
+
+pub enter-reach-requires : goal.enter-reach-requires
+enter-reach-requires c = fall-enters c.requires.0 c.loop-next.invariant (omega (arith, c.loop-next-test.true)) c.at-h.result c.at-h.ensures c.row-line.result.now c.row-line.ensures.0
+
+pub nearest-next-requires-in-loop-next : goal.nearest-next-requires-in-loop-next
+nearest-next-requires-in-loop-next c =
+    let d = c.requires.0 in
+    let e = c.enter-reach in
+    let low = fall-nearest d c.loop-next.invariant (omega (arith, c.loop-next-test.true)) c.at-h.result c.at-h.ensures c.row-line.result.now c.row-line.ensures.0 e.new.dist e.new.via e.new.left e.result.u e.result.low e.ensures in
+    (d.standing.table.max_items, low.0, low.1)
+
+pub loop-next-smaller : goal.loop-next-smaller
+loop-next-smaller c =
+    let e = c.enter-reach in
+    fall-fewer c.requires.0 c.loop-next.invariant (omega (arith, c.loop-next-test.true)) c.at-h.result c.at-h.ensures c.row-line.result.now c.row-line.ensures.0 e.new.dist e.new.via e.new.left e.result.u e.result.low e.ensures
+
+pub loop-next-preserved : goal.loop-next-preserved
+loop-next-preserved c =
+    let e = c.enter-reach in
+    fall-next c.requires.0 c.loop-next.invariant (omega (arith, c.loop-next-test.true)) c.at-h.result c.at-h.ensures c.row-line.result.now c.row-line.ensures.0 e.new.dist e.new.via e.new.left e.result.u e.result.low e.ensures c.nearest-next-in-loop-next.result c.nearest-next-in-loop-next.ensures
+
+pub returns : goal.returns
+returns c = fall-end c.requires.0 c.loop-next.invariant c.loop-next-test.false

@@ -1,0 +1,15 @@
+-- `least::descend` meets its contract: each turn enters the nearest item, until none is left. Assumes nothing.
+use Prim.Native.Nat.{ℕ}
+use mathlib.Core.Path.{ap, ◌∙◌}
+use native.Mathlib.Omega.{arith}
+use lib.ListN.{length, length-replicate}
+use Rattle.least.specs.Putting.{left_count}
+use Rattle.least.proofs.Descending.{Falling, fall-lowest, fall-start, fall-small, fall-end, fall-holder, fall-enters, fall-fewer, fall-nearest, fall-next}
+use borrow.Author.Rules.{rules}
+use Rattle.least.proofs.descend.Given as goal
+
+abbrev pub invariant-loop-next : goal.invariant-loop-next
+invariant-loop-next l = Falling l.items l.bids l.prices l.own l.best l.dist l.via l.left l.next
+
+abbrev pub decreases-loop-next : goal.decreases-loop-next
+decreases-loop-next l = left_count l.left

@@ -1,0 +1,13 @@
+-- `least::held` meets its contract: each turn fills one place. Assumes nothing.
+use Prim.Native.Nat.{◌-◌, ◌≤◌}
+use native.Mathlib.Omega.{arith}
+use Rattle.least.specs.Steps.{LeftBy}
+use Rattle.least.proofs.Numbering.{left-none, left-more, left_end}
+use borrow.Author.Rules.{rules}
+use Rattle.least.proofs.held.Given as goal
+
+abbrev pub invariant-loop-x : goal.invariant-loop-x
+invariant-loop-x l = (l.x ≤ 64) × LeftBy (λ l.x. 0) l.own l.x l.left
+
+abbrev pub decreases-loop-x : goal.decreases-loop-x
+decreases-loop-x l = 64 - l.x

@@ -1,0 +1,16 @@
+-- `least::lower` meets its contract: each turn lowers one price. Assumes nothing.
+use Prim.Native.Nat.{◌-◌, ◌≤◌}
+use native.Mathlib.Omega.{arith}
+use native.Mathlib.Nat.{le_refl}
+use lib.ListN.{get_or}
+use Rattle.sets.proofs.Tests.{at-end}
+use Rattle.least.specs.Putting.{Changed}
+use Rattle.least.proofs.Changing.{changed-none, changed-more}
+use borrow.Author.Rules.{rules}
+use Rattle.least.proofs.lower.Given as goal
+
+abbrev pub invariant-loop-i : goal.invariant-loop-i
+invariant-loop-i l = (l.i ≤ l.items) × Changed l.i (λ x. get_or l.initial.prices x 0 - get_or l.dist x 0) l.initial.prices l.prices
+
+abbrev pub decreases-loop-i : goal.decreases-loop-i
+decreases-loop-i l = l.items - l.i

@@ -1,0 +1,16 @@
+-- `least::offer` meets its contract: each turn does one place. Assumes nothing.
+use Prim.Native.Nat.{◌-◌, ◌≤◌, max}
+use native.Mathlib.Omega.{arith}
+use native.Mathlib.Nat.{le_refl}
+use lib.ListN.{length, get_or}
+use Rattle.sets.proofs.Tests.{at-end}
+use Rattle.least.specs.Putting.{Changed}
+use Rattle.least.proofs.Changing.{changed-none, changed-more}
+use borrow.Author.Rules.{rules}
+use Rattle.least.proofs.offer.Given as goal
+
+abbrev pub invariant-loop-x : goal.invariant-loop-x
+invariant-loop-x l = (l.x ≤ length l.line) × Changed l.x (λ y. max (get_or l.initial.best y 0) (get_or l.line y 0)) l.initial.best l.best
+
+abbrev pub decreases-loop-x : goal.decreases-loop-x
+decreases-loop-x l = length l.line - l.x

@@ -1,0 +1,28 @@
+-- `least::rise` meets its contract. Assumes nothing.
+use Rattle.least.proofs.Lifting.{lifted-standing, rise-calm, rise-balanced, rise-least}
+use Rattle.least.proofs.rise.Goals as goal
+
+pub lift_all-waiting-requires : goal.lift_all-waiting-requires
+lift_all-waiting-requires c = let from = c.requires.0.1 in (from.standing.long, from.standing.long_own)
+
+pub returns-then-waiting-eq0 : goal.returns-then-waiting-eq0
+returns-then-waiting-eq0 c =
+    let pre = c.requires in
+    rise-calm pre.0.1 pre.0.2 pre.1 c.lift_all-waiting.ensures c.if-waiting-eq0.true
+
+pub put_all-requires : goal.put_all-requires
+put_all-requires c = let pre = c.requires in lifted-standing pre.0.1 pre.0.2 pre.1 c.lift_all-waiting.ensures
+
+pub fall-requires : goal.fall-requires
+fall-requires c =
+    let pre = c.requires in
+    let l = c.lift_all-waiting in
+    let p = c.put_all_lem in
+    (rise-balanced pre.0.1 pre.0.2 pre.1 l.ensures p.new.0 p.new.1.0 p.ensures, l.ensures.long)
+
+pub returns : goal.returns
+returns c =
+    let pre = c.requires in
+    let l = c.lift_all-waiting in
+    let p = c.put_all_lem in
+    rise-least pre.0.1 pre.0.2 pre.1 l.ensures p.new.0 p.new.1.0 p.ensures c.fall.new.prices c.fall.ensures
