@@ -12,12 +12,12 @@ put_all-requires c =
 pub give_all-requires : goal.give_all-requires
 give_all-requires c =
     let t = c.transposed-table in
-    let p = c.put_all_lem in
-    (options c.requires t.result t.ensures.0 t.ensures.1 t.ensures.2 p.new.0 p.new.1.0 p.ensures, refl, refl)
+    let p = c.put_all in
+    (options c.requires t.result t.ensures.0 t.ensures.1 t.ensures.2 p.new.prices p.new.own p.ensures, refl, refl)
 
 pub returns : goal.returns
 returns c =
     let t = c.transposed-table in
-    let p = c.put_all_lem in
+    let p = c.put_all in
     let g = c.give_all in
-    balanced c.requires t.result t.ensures.0 t.ensures.1 t.ensures.2 p.new.0 p.new.1.0 p.ensures g.new.prices g.new.own g.ensures
+    balanced c.requires t.result t.ensures.0 t.ensures.1 t.ensures.2 p.new.prices p.new.own p.ensures g.new.prices g.new.own g.ensures

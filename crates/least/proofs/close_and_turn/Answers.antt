@@ -22,7 +22,8 @@ passed : (m n : ℕ) (start floors bids : List ℕ) {r : ℕ} → r ≡ sealed_a
 passed m n start floors bids e z = fine m n start floors bids (accepted m n start floors bids e z)
 
 pub returns-then-refusal_above-ne0 : goal.returns-then-refusal_above-ne0
-returns-then-refusal_above-ne0 c = ((λ none. absurd (c.if-refusal_above-ne0.true (c.refusal_above.ensures ∙ none))), λ some. c.nothing.ensures)
+returns-then-refusal_above-ne0 c =
+    record { least = λ none. absurd (c.if-refusal_above-ne0.true (c.refusal_above.ensures ∙ none)); refused = λ some. c.nothing.ensures }
 
 pub balance-b-requires : goal.balance-b-requires
 balance-b-requires c =
@@ -49,10 +50,11 @@ returns c =
     let f = passed a.items a.bidders a.start.now a.floors.now a.bids.now c.refusal_above.ensures c.if-refusal_above-ne0.false in
     let rows = rows_of a.items a.bidders a.bids.now in
     let low = c.in_places-low in
-    let first = c.in_places-first in (
-      (λ none. (
+    let first = c.in_places-first in
+    record {
+      least = λ none. (
         narrow-least a.items rows a.floors.now low.result c.rise.new.prices low.ensures (short-floors f) c.rise.ensures.past c.rise.ensures.least c.narrow-close.result c.narrow-close.ensures,
         narrow-least a.items rows a.start.now first.result c.rise-2.new.prices first.ensures (short-start f) c.rise-2.ensures.past c.rise-2.ensures.least c.narrow.result c.narrow.ensures,
-      )),
-      λ some. absurd (some (accepted a.items a.bidders a.start.now a.floors.now a.bids.now c.refusal_above.ensures c.if-refusal_above-ne0.false)),
-    )
+      );
+      refused = λ some. absurd (some (accepted a.items a.bidders a.start.now a.floors.now a.bids.now c.refusal_above.ensures c.if-refusal_above-ne0.false));
+    }

@@ -7,7 +7,7 @@ use borrow.Author.Rules.{rules}
 use Rattle.least.proofs.held.Given as goal
 
 abbrev pub invariant-loop-x : goal.invariant-loop-x
-invariant-loop-x l = (l.x ≤ 64) × LeftBy (λ l.x. 0) l.own l.x l.left
+invariant-loop-x l = (l.x ≤ 64) × LeftBy (λ x. 0) l.own l.x l.left
 
 abbrev pub decreases-loop-x : goal.decreases-loop-x
 decreases-loop-x l = 64 - l.x

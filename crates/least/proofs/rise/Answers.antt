@@ -17,12 +17,12 @@ pub fall-requires : goal.fall-requires
 fall-requires c =
     let pre = c.requires in
     let l = c.lift_all-waiting in
-    let p = c.put_all_lem in
-    (rise-balanced pre.0.1 pre.0.2 pre.1 l.ensures p.new.0 p.new.1.0 p.ensures, l.ensures.long)
+    let p = c.put_all in
+    (rise-balanced pre.0.1 pre.0.2 pre.1 l.ensures p.new.prices p.new.own p.ensures, l.ensures.long)
 
 pub returns : goal.returns
 returns c =
     let pre = c.requires in
     let l = c.lift_all-waiting in
-    let p = c.put_all_lem in
-    rise-least pre.0.1 pre.0.2 pre.1 l.ensures p.new.0 p.new.1.0 p.ensures c.fall.new.prices c.fall.ensures
+    let p = c.put_all in
+    rise-least pre.0.1 pre.0.2 pre.1 l.ensures p.new.prices p.new.own p.ensures c.fall.new.prices c.fall.ensures
