@@ -1,0 +1,14 @@
+-- `auction::furthest` meets its contract. The most so far is the greatest of the places passed. Assumes nothing.
+use Prim.Native.Nat.{ℕ, ◌-◌, ◌≤◌}
+use mathlib.Core.Path.{◌≡◌, refl, ap, ◌∙◌}
+use native.Mathlib.Omega.{arith}
+use Rattle.rule.specs.Sheet.{amount, greatest}
+use Rattle.rule.proofs.Greatest.{greatest-next}
+use borrow.Author.Rules.{rules}
+use Rattle.auction.proofs.furthest.Given as goal
+
+abbrev pub invariant-loop-i : goal.invariant-loop-i
+invariant-loop-i l = (l.i ≤ 32) × (l.most ≡ greatest l.i (λ j. amount l.a j - amount l.b j))
+
+abbrev pub decreases-loop-i : goal.decreases-loop-i
+decreases-loop-i l = 32 - l.i

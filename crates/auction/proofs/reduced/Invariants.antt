@@ -1,0 +1,16 @@
+-- `auction::reduced` meets its contract: each turn fills one line. Assumes nothing.
+use Prim.Native.Nat.{ℕ, ◌-◌, ◌≤◌}
+use mathlib.Core.Path.{◌≡◌}
+use native.Mathlib.Omega.{arith}
+use lib.ListN.{length, length-replicate}
+use Rattle.sets.proofs.Tests.{at-end}
+use Rattle.auction.specs.Reduced.{ReducedLines}
+use Rattle.auction.proofs.Reducing.{line-fits, lines_none, lines_more}
+use borrow.Author.Rules.{rules}
+use Rattle.auction.proofs.reduced.Given as goal
+
+abbrev pub invariant-loop-b : goal.invariant-loop-b
+invariant-loop-b l = (l.b ≤ l.bidders) × (length l.table ≡ 2048) × ReducedLines l.items l.prices l.bids l.b l.table
+
+abbrev pub decreases-loop-b : goal.decreases-loop-b
+decreases-loop-b l = l.bidders - l.b
