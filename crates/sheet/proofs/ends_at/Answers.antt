@@ -1,0 +1,18 @@
+-- `sheet::ends_at` meets its contract. Assumes nothing.
+use Prim.Native.Nat.{ℕ}
+use mathlib.Core.Path.{refl, sym, ap}
+use lib.Dec.{eqb}
+use lib.ListN.{get_or-eq_default}
+use borrow.Author.Rules.{rules}
+use Rattle.lines.specs.Reading.{ends_at}
+use Rattle.sheet.proofs.ends_at.Goals as goal
+
+pub returns-then-at-s : goal.returns-then-at-s
+unfolding ends_at
+returns-then-at-s c = refl
+
+pub returns : goal.returns
+unfolding ends_at
+returns c =
+    let a = c.args in
+    ap (λ (b : ℕ). eqb b 10) (sym (get_or-eq_default a.s.now 0 c.if-at-s.false))
