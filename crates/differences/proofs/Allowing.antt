@@ -20,7 +20,7 @@ use Rattle.reports.specs.Report.{same_bool, same_demand}
 use Rattle.reports.proofs.Same.{same-bool, bool_same}
 use Rattle.differences.specs.Allowed.{explains, allows, narrowed}
 use Rattle.differences.specs.Shifted.{Table, up, shifted, through_all}
-use Rattle.differences.specs.Constraint.{range, pivot, limit, within}
+use Rattle.differences.specs.Constraint.{range, limit, within}
 use Rattle.differences.proofs.Constraints.{amount-null, range-own, range-top, range-under}
 use Rattle.differences.proofs.Closure.{Bids, Meets, Good, Ranged, good_of}
 use Rattle.differences.proofs.Explaining.{Best, Explains, by-null, null-by, by-item, item_by}
