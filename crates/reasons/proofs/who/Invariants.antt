@@ -1,0 +1,27 @@
+-- `reasons::who` meets its contract. Each turn looks at one bidder. Assumes nothing.
+use Prim.Native.Nat.{ℕ, ◌-◌, ◌+◌, ◌≤◌, ◌<◌}
+use mathlib.Core.Path.{◌≡◌, refl, sym, ap, ◌∙◌}
+use mathlib.Core.Bool.{Bool}
+use mathlib.Core.List.{List}
+use native.Mathlib.Omega.{arith}
+use native.Mathlib.Numerals.{add-one}
+use lib.ListN.{get_or}
+use Rattle.sets.specs.Bit.{has, set_of}
+use Rattle.rule.specs.Demand.{Demand, nth}
+use Rattle.rule.specs.Reasons.{bidders_with}
+use Rattle.round.specs.Reports.{reports}
+use Rattle.round.proofs.Adding.{add-next, add-end}
+use Rattle.round.proofs.Reporting.{reports-length, report}
+use Rattle.reasons.specs.Steps.{counts_for}
+use borrow.Author.Rules.{rules}
+use Rattle.reasons.proofs.who.Given as goal
+
+-- bidder j's demand counts
+abbrev pub at : (n : ℕ) (sets : List ℕ) (nulls s : ℕ) (falls : Bool) → ℕ → Bool
+at n sets nulls s falls j = counts_for falls 32 s (nth (reports n sets nulls) (j - 1))
+
+abbrev pub invariant-loop-b : goal.invariant-loop-b
+invariant-loop-b l = (l.b ≤ l.bidders) × (l.g ≡ set_of l.b (at l.bidders l.sets l.nulls l.set l.falls))
+
+abbrev pub decreases-loop-b : goal.decreases-loop-b
+decreases-loop-b l = l.bidders - l.b
