@@ -22,7 +22,7 @@ ghost use Rattle.live.specs.Tidy.{Tidy, Ready, Calm, fit_number, ready_number, r
 pub const MOST_BIDDERS: usize = 40;
 
 // document 01: rising, falling, closed
-#[derive(Drop)]
+#[derive(Clone, Copy)]
 pub enum Phase {
     Rising,
     Falling,
@@ -30,14 +30,14 @@ pub enum Phase {
 }
 
 // the kind of a move: raised or lowered
-#[derive(Drop)]
+#[derive(Clone, Copy)]
 pub enum Kind {
     Raised,
     Lowered,
 }
 
 // what ending a round gives: moved, with the kind of move and its items; closed; or turned down, with its number
-#[derive(Drop)]
+#[derive(Clone, Copy)]
 pub enum Ended {
     Moved(Kind, u32),
     Closed,
@@ -46,7 +46,7 @@ pub enum Ended {
 
 // the record: items, bidders, prices, floors, reports (an item set each, and the set of the bidders who say null), which bidders
 // have reported, the phase, and the counts of raising and lowering rounds
-#[derive(Drop)]
+#[derive(Clone, Copy)]
 pub struct Auction {
     pub items: usize,
     pub bidders: usize,
@@ -61,14 +61,14 @@ pub struct Auction {
 }
 
 // opening, report and clear: the number that turned the call down, or 0, beside the next record
-#[derive(Drop)]
+#[derive(Clone, Copy)]
 pub struct Reply {
     pub number: u8,
     pub next: Auction,
 }
 
 // ending a round: its answer beside the next record
-#[derive(Drop)]
+#[derive(Clone, Copy)]
 pub struct Step {
     pub ended: Ended,
     pub next: Auction,

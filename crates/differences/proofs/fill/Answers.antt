@@ -18,8 +18,7 @@ returns-then-not-is_part c =
 
 pub loop-k-init : goal.loop-k-init
 loop-k-init c =
-    let fitted : is_part c.args.items c.args.part.now ≡ true =
-    sym c.is_part.ensures ∙ c.if-not-is_part.false in
+    let fitted : is_part c.args.items c.args.part.now ≡ true = sym c.is_part.ensures ∙ c.if-not-is_part.false in
     let a = c.args in part-start (opening_place a.items) a.part.now (part-use a.items a.part.now fitted).0
 
 pub loop-k-preserved : goal.loop-k-preserved
@@ -31,8 +30,7 @@ loop-k-preserved c =
 
 pub shape_of-part : goal.shape_of-part
 shape_of-part c =
-    let fitted : is_part c.args.items c.args.part.now ≡ true =
-    sym c.is_part.ensures ∙ c.if-not-is_part.false in
+    let fitted : is_part c.args.items c.args.part.now ≡ true = sym c.is_part.ensures ∙ c.if-not-is_part.false in
     let a = c.args in
     let now = c.loop-k.invariant.long in
     let first = (part-use a.items a.part.now fitted).0 in
@@ -41,8 +39,7 @@ shape_of-part c =
 pub returns : goal.returns
 unfolding filled
 returns c =
-    let fitted : is_part c.args.items c.args.part.now ≡ true =
-    sym c.is_part.ensures ∙ c.if-not-is_part.false in
+    let fitted : is_part c.args.items c.args.part.now ≡ true = sym c.is_part.ensures ∙ c.if-not-is_part.false in
     let a = c.args in
     let at = c.loop-k in
     let e = fitted in

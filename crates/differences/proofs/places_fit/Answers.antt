@@ -22,16 +22,14 @@ loop-k-init c = (omega arith, below_none _)
 
 pub bounds-part-k : goal.bounds-part-k
 bounds-part-k c =
-    let fitted : is_part c.args.items c.args.part.now ≡ true =
-    sym c.is_part.ensures ∙ c.if-not-is_part.false in
+    let fitted : is_part c.args.items c.args.part.now ≡ true = sym c.is_part.ensures ∙ c.if-not-is_part.false in
     let a = c.args in
     let long = (part-use a.items a.part.now fitted).0 in
     search rules
 
 pub returns-then-not-place_fits : goal.returns-then-not-place_fits
 returns-then-not-place_fits c =
-    let fitted : is_part c.args.items c.args.part.now ≡ true =
-    sym c.is_part.ensures ∙ c.if-not-is_part.false in
+    let fitted : is_part c.args.items c.args.part.now ≡ true = sym c.is_part.ensures ∙ c.if-not-is_part.false in
     let here : place_fits c.args.items (c.loop-k.k / 33) (c.loop-k.k % 33) (get_or c.args.part.now c.loop-k.k (pos 0)) ≡ c.place_fits.result =
     let a = c.args in
     let k = c.loop-k.k in
@@ -53,7 +51,6 @@ loop-k-preserved c =
 
 pub returns : goal.returns
 returns c =
-    let fitted : is_part c.args.items c.args.part.now ≡ true =
-    sym c.is_part.ensures ∙ c.if-not-is_part.false in
+    let fitted : is_part c.args.items c.args.part.now ≡ true = sym c.is_part.ensures ∙ c.if-not-is_part.false in
     let a = c.args in
     sym (places-all a.items a.part.now fitted (λ k l. c.loop-k.invariant.1 k (omega (arith, l, c.loop-k-test.false))))
