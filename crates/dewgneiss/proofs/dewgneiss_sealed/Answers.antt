@@ -1,0 +1,21 @@
+-- `dewgneiss::dewgneiss_sealed` meets its contract. Assumes nothing.
+use mathlib.Core.Path.{sym, ap, ◌∙◌}
+use Rattle.auction.specs.declared.Closing.{Closing}
+use borrow.Author.Rules.{rules}
+use Rattle.dewgneiss.proofs.Results.{lent-sealed, lent, counts-sealed}
+use Rattle.dewgneiss.proofs.dewgneiss_sealed.Goals as goal
+
+pub lend-requires : goal.lend-requires
+lend-requires c z =
+    let a = c.args in
+    counts-sealed a.items a.bidders a.start.now a.bids.now (sym (ap (λ (r : Closing). r.refusal) c.sealed-c.ensures.outcome) ∙ z)
+
+pub returns : goal.returns
+returns c =
+    let a = c.args in
+    let e = c.sealed-c.ensures.outcome in
+    let k = c.lend.ensures in
+    let all = lent a.items a.bidders a.rounds.now a.prices.now a.options.now a.gains.now e
+    (lent-sealed a.items a.bidders a.start.now a.bids.now a.rounds.now a.prices.now a.options.now a.gains.now)
+    (k.number, (k.rounds, (k.prices, (k.options, k.gains)))) in
+    record { number = all.0; rounds = all.1.0; prices = all.1.1.0; options = all.1.1.1.0; gains = all.1.1.1.1 }
