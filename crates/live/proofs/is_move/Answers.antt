@@ -1,7 +1,6 @@
 -- `live::is_move` meets its contract. Assumes nothing.
 use mathlib.Core.Path.{◌≡◌, refl, sym, ap, ◌∙◌}
 use mathlib.Core.Bool.{true}
-use borrow.Author.Rules.{rules}
 use Prim.Native.Nat.{ℕ}
 use Rattle.live.specs.Calls.{move_of, ending_of}
 use Rattle.live.specs.Tidy.{is_move}

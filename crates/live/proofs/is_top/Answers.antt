@@ -1,5 +1,4 @@
 -- `live::is_top` meets its contract. Assumes nothing.
-use borrow.Author.Tests.{not-true, not-false}
 use Rattle.live.proofs.is_top.Goals as goal
 
 pub returns-then-not-on : goal.returns-then-not-on

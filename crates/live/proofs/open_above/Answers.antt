@@ -1,6 +1,5 @@
 -- `live::open_above` meets its contract. Assumes nothing.
 use mathlib.Core.Path.{sym, ap, ◌∙◌}
-use borrow.Author.Rules.{rules}
 use Rattle.live.specs.declared.Auction.{Auction}
 use Rattle.live.proofs.Opening.{accepts, turned-down, opens, fills}
 use Rattle.live.proofs.open_above.Goals as goal

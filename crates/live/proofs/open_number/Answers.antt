@@ -4,7 +4,6 @@ use mathlib.Core.Path.{◌≡◌, sym, ◌∙◌}
 use mathlib.Core.Bool.{false}
 use Prim.Native.Nat.{◌≤◌}
 use native.Mathlib.Omega.{arith}
-use borrow.Author.Rules.{rules}
 use Rattle.rule.specs.Refusal.{bad_items, most_live_bidders, bad_live_bidders, any_over}
 use Rattle.rule.proofs.Refusal.{in-range}
 use Rattle.live.proofs.Opening.{one, two, three, three-floors, three-tables, four, eighteen, no_number}

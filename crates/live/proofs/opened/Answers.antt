@@ -1,6 +1,5 @@
 -- `live::opened` meets its contract. Assumes nothing.
 use mathlib.Core.Path.{refl}
-use borrow.Author.Rules.{rules}
 use Rattle.live.specs.Calls.{opened}
 use Rattle.live.proofs.Parts.{by_parts}
 use Rattle.live.proofs.opened.Goals as goal

@@ -2,7 +2,6 @@
 use mathlib.Core.Path.{ap}
 use Rattle.live.specs.Calls.{unopened}
 use Rattle.live.specs.declared.Auction.{Auction}
-use borrow.Author.Rules.{rules}
 use Rattle.live.proofs.refused.Goals as goal
 
 pub returns : goal.returns

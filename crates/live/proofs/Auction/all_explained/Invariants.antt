@@ -1,18 +1,10 @@
 -- `live::Auction::all_explained` meets its contract: the reports of the bidders passed so far are explained. Assumes nothing.
 use Prim.Native.Nat.{ℕ, ◌-◌, ◌≤◌, ◌<◌}
-use mathlib.Core.Path.{◌≡◌, sym, ap, ◌∙◌}
-use mathlib.Core.Bool.{true, false, not}
-use native.Mathlib.Omega.{arith}
-use borrow.Author.Count.{below_none, below_more}
-use borrow.Author.Rules.{rules}
-use borrow.Author.Tests.{not-true, not-false}
-use Rattle.sets.proofs.Tests.{any-make, any_false}
+use mathlib.Core.Path.{◌≡◌}
+use mathlib.Core.Bool.{false}
 use Rattle.rule.specs.Refusal.{most_live_bidders}
-use Rattle.reports.specs.Report.{unfit}
 use Rattle.live.specs.Auction.{place}
-use Rattle.live.specs.Tables.{unexplained_at, any_unexplained}
-use Rattle.live.proofs.Formed.{formed}
-use Rattle.live.proofs.Lent.{said_at, report-fits}
+use Rattle.live.specs.Tables.{unexplained_at}
 use Rattle.live.proofs.Auction.all_explained.Given as goal
 
 abbrev pub invariant-loop-k : goal.invariant-loop-k

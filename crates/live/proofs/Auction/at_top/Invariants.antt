@@ -1,18 +1,11 @@
 -- `live::Auction::at_top` meets its contract. Of the items passed so far none in the set stands at 4,095. Assumes nothing.
-use mathlib.Core.Path.{◌≡◌, sym, ap, ◌∙◌}
+use mathlib.Core.Path.{◌≡◌}
 use mathlib.Core.List.{List}
 use mathlib.Core.Bool.{Bool, false, ◌&&◌}
 use Prim.Native.Nat.{ℕ, suc, ◌-◌, ◌≤◌, ◌<◌}
-use native.Mathlib.Omega.{arith}
-use native.Mathlib.Numerals.{add-one}
 use lib.Dec.{eqb}
-use lib.ListN.{get_or}
-use borrow.Author.Count.{below_none, below_more}
-use borrow.Author.Rules.{rules}
 use Rattle.sets.specs.Bit.{has}
-use Rattle.sets.proofs.Counting.{any-make, any_false}
 use Rattle.rule.specs.Sheet.{amount}
-use Rattle.live.specs.Calls.{at_top}
 use Rattle.live.proofs.Auction.at_top.Given as goal
 
 abbrev pub top_at : List ℕ → ℕ → ℕ → Bool

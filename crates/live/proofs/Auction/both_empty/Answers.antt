@@ -5,7 +5,6 @@ use mathlib.Core.Bool.{Bool, true, false, ◌&&◌}
 use lib.Dec.{eqb}
 use borrow.Author.Tests.{ne_eqb, eq-eqb}
 use Rattle.live.specs.Auction.{rising_set, falling_set}
-use borrow.Author.Rules.{rules}
 use Rattle.live.proofs.Auction.both_empty.Goals as goal
 
 pub returns-then-rising_set-ne0 : goal.returns-then-rising_set-ne0

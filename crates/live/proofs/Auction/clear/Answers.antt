@@ -1,7 +1,6 @@
 -- `live::Auction::clear` meets its contract. Assumes nothing.
 use Prim.Native.Nat.{ℕ}
 use mathlib.Core.Path.{sym, ap, ◌∙◌}
-use borrow.Author.Rules.{rules}
 use Rattle.live.specs.Calls.{cleared, clear_number, clear}
 use Rattle.live.specs.declared.Auction.{Auction}
 use Rattle.live.proofs.Refusing.{replied, reply-kept, reply-new}

@@ -2,8 +2,6 @@
 use mathlib.Core.Path.{◌≡◌, sym, ◌∙◌}
 use mathlib.Core.Bool.{true}
 use mathlib.Core.List.{[]}
-use borrow.Author.Rules.{rules}
-use borrow.Author.Tests.{not-true, not-false}
 use Rattle.rule.specs.Refusal.{first}
 use Rattle.live.specs.Auction.{well_formed}
 use Rattle.live.specs.Calls.{clear_number}

@@ -1,12 +1,10 @@
 -- `live::Auction::close_fits` meets its contract. Assumes nothing.
 use mathlib.Core.Path.{◌≡◌, sym, ◌∙◌}
 use mathlib.Core.Bool.{true, false}
-use borrow.Author.Tests.{not-true, not-false}
 use Rattle.live.specs.Auction.{missing}
 use Rattle.live.specs.Calls.{is_closed}
 use Rattle.live.proofs.Phases.{not-closed, closed-by}
 use Rattle.live.proofs.Places.{missing-is}
-use borrow.Author.Rules.{rules}
 use Rattle.live.proofs.Auction.close_fits.Goals as goal
 
 pub returns-then-not-is_closed : goal.returns-then-not-is_closed

@@ -1,7 +1,6 @@
 -- `live::Auction::counts_fit` meets its contract. Assumes nothing.
 use mathlib.Core.Path.{sym, ap, ◌∙◌}
 use mathlib.Core.Bool.{Bool, ◌&&◌, not}
-use borrow.Author.Rules.{rules}
 use Rattle.rule.specs.Refusal.{bad_items, bad_live_bidders}
 use Rattle.live.specs.Auction.{counts_fit}
 use Rattle.live.proofs.Auction.counts_fit.Goals as goal

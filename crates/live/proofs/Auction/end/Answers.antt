@@ -1,6 +1,5 @@
 -- `live::Auction::end` meets its contract. Assumes nothing.
 use mathlib.Core.Path.{sym, ap, ◌∙◌}
-use borrow.Author.Rules.{rules}
 use Rattle.live.specs.Calls.{ending_of}
 use Rattle.live.specs.Tidy.{is_move}
 use Rattle.live.specs.declared.Step.{Step}

@@ -1,7 +1,6 @@
 -- `live::Auction::ended` meets its contract. Assumes nothing.
 use mathlib.Core.Path.{sym, ap, ◌∙◌}
 use mathlib.Core.Bool.{true≢false}
-use borrow.Author.Rules.{rules}
 use Rattle.live.specs.Calls.{is_closed}
 use Rattle.live.proofs.Formed.{tidy}
 use Rattle.live.proofs.Auction.ended.Goals as goal

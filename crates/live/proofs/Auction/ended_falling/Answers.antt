@@ -1,6 +1,5 @@
 -- `live::Auction::ended_falling` meets its contract. Assumes nothing.
 use mathlib.Core.Path.{refl, sym, ◌∙◌}
-use borrow.Author.Rules.{rules}
 use borrow.Author.Tests.{eqb-false}
 use Rattle.live.specs.Calls.{ending_of}
 use Rattle.live.specs.declared.Ended.TheVariants.{Refused}

@@ -1,5 +1,4 @@
 -- `live::Auction::ended_low` meets its contract. Assumes nothing.
-use borrow.Author.Rules.{rules}
 use Rattle.rule.specs.Round.{lowered, closed}
 use Rattle.live.specs.Calls.{settled, ending_of, move_of}
 use Rattle.live.specs.declared.Kind.TheVariants.{Lowered}

@@ -1,7 +1,6 @@
 -- `live::Auction::ended_rising` meets its contract. Assumes nothing.
 use mathlib.Core.Path.{◌≡◌, refl, sym, ap, ◌∙◌}
 use mathlib.Core.Bool.{true, false}
-use borrow.Author.Rules.{rules}
 use borrow.Author.Tests.{eqb-false}
 use Rattle.rule.specs.Round.{raised}
 use Rattle.live.specs.Auction.{rising_set}

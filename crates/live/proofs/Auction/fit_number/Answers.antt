@@ -2,8 +2,6 @@
 use mathlib.Core.Path.{◌≡◌, sym, ◌∙◌}
 use mathlib.Core.Bool.{true}
 use native.Mathlib.Omega.{arith}
-use borrow.Author.Rules.{rules}
-use borrow.Author.Tests.{not-true, not-false}
 use Rattle.live.specs.Auction.{well_formed}
 use Rattle.live.proofs.Formed.{formed}
 use Rattle.live.proofs.Opening.{tables-exact, tables-inexact}

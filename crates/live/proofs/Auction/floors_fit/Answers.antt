@@ -1,7 +1,6 @@
 -- `live::Auction::floors_fit` meets its contract. Assumes nothing.
 use mathlib.Core.Path.{◌≡◌, ap, ◌∙◌}
 use mathlib.Core.Bool.{not}
-use borrow.Author.Rules.{rules}
 use Rattle.live.specs.Auction.{from_floors}
 use Rattle.live.proofs.Formed.{floors-clauses}
 use Rattle.live.proofs.Auction.floors_fit.Goals as goal

@@ -1,7 +1,6 @@
 -- `live::Auction::is_explained` meets its contract. Assumes nothing.
 use mathlib.Core.Path.{◌∙◌}
 use native.Mathlib.Omega.{arith}
-use borrow.Author.Rules.{rules}
 use Rattle.reports.specs.Report.{saying}
 use Rattle.live.proofs.Opening.{tables_long}
 use Rattle.live.proofs.Formed.{formed}

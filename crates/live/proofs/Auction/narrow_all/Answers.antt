@@ -1,13 +1,11 @@
 -- `live::Auction::narrow_all` meets its contract: the tables of the bidders done are narrowed, and those of the others are as they came. Assumes nothing.
-use Prim.Native.Nat.{ℕ, ◌+◌, ◌*◌, ◌-◌, ◌≤◌}
+use Prim.Native.Nat.{ℕ, ◌+◌, ◌*◌, ◌-◌}
 use mathlib.Core.Path.{◌≡◌, refl, sym, ap, ◌∙◌}
 use mathlib.Core.List.{List}
 use native.Mathlib.Omega.{arith}
-use lib.ListN.{length, get_or, take, drop}
+use lib.ListN.{length, get_or, take}
 use lib.IntN.{ℤ}
-use borrow.Author.Rules.{rules}
 use borrow.Rule.Slice.PartMut.{same_len_mid}
-use Rattle.rule.specs.Refusal.{most_live_bidders}
 use Rattle.reports.specs.Report.{saying}
 use Rattle.differences.specs.Allowed.{narrowed}
 use Rattle.differences.specs.Lent.{table_at, flat_all}

@@ -2,7 +2,6 @@
 use mathlib.Core.Path.{ap}
 use mathlib.Core.Bool.{not}
 use Rattle.live.specs.Auction.{prices_fit}
-use borrow.Author.Rules.{rules}
 use Rattle.live.proofs.Auction.prices_fit.Goals as goal
 
 pub returns : goal.returns

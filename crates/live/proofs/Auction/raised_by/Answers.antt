@@ -2,7 +2,6 @@
 use Prim.Native.Nat.{ℕ, ◌+◌}
 use mathlib.Core.List.{List}
 use mathlib.Core.Path.{ap, ◌∙◌}
-use borrow.Author.Rules.{rules}
 use Rattle.live.specs.Calls.{cleared, settled}
 use Rattle.live.specs.declared.Auction.{Auction}
 use Rattle.live.specs.declared.Step.{Step}

@@ -2,7 +2,6 @@
 -- ---- what has passed
 use mathlib.Core.Path.{◌≡◌, sym, ◌∙◌}
 use mathlib.Core.Bool.{false}
-use borrow.Author.Rules.{rules}
 use borrow.Author.Tests.{not-true, not-false}
 use Rattle.live.specs.Auction.{missing}
 use Rattle.live.specs.Calls.{is_closed}

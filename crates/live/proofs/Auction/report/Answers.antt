@@ -2,7 +2,6 @@
 use Prim.Native.Nat.{ℕ}
 use mathlib.Core.Path.{sym, ap, ◌∙◌}
 use native.Mathlib.Omega.{arith}
-use borrow.Author.Rules.{rules}
 use Rattle.reports.specs.Report.{saying}
 use Rattle.live.specs.Calls.{with_report, report_number, report}
 use Rattle.live.specs.declared.Auction.{Auction}

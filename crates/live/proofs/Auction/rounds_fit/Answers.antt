@@ -1,6 +1,5 @@
 -- `live::Auction::rounds_fit` meets its contract. Assumes nothing.
 use mathlib.Core.Path.{◌∙◌}
-use borrow.Author.Rules.{rules}
 use Rattle.live.proofs.Phases.{rises-test, falls-test, closed-test}
 use Rattle.live.proofs.Auction.rounds_fit.Goals as goal
 

@@ -1,5 +1,4 @@
 -- `live::Auction::rounds_rising` meets its contract. Assumes nothing.
-use borrow.Author.Rules.{rules}
 use Rattle.live.proofs.Phases.{was-lowered, raised-test}
 use Rattle.live.proofs.Auction.rounds_rising.Goals as goal
 

@@ -1,5 +1,4 @@
 -- `live::Auction::rounds_within` meets its contract. Assumes nothing.
-use borrow.Author.Rules.{rules}
 use Rattle.live.proofs.Phases.{raised-over, lowered-test}
 use Rattle.live.proofs.Auction.rounds_within.Goals as goal
 

@@ -1,11 +1,8 @@
 -- `live::Auction::tables_fit` meets its contract: the tables of the bidders passed so far fit. Assumes nothing.
-use Prim.Native.Nat.{ℕ, ◌-◌, ◌≤◌, ◌<◌}
 use mathlib.Core.Path.{◌≡◌, sym, ◌∙◌}
 use mathlib.Core.Bool.{true, false}
 use native.Mathlib.Omega.{arith}
 use borrow.Author.Count.{below_none, below_more}
-use borrow.Author.Rules.{rules}
-use borrow.Author.Tests.{not-true, not-false}
 use Rattle.sets.proofs.Tests.{all-use, all-make, not-both, is_false}
 use Rattle.differences.specs.Table.{table_fits}
 use Rattle.differences.specs.Lent.{table_at}

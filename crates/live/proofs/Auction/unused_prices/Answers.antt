@@ -1,10 +1,8 @@
 -- `live::Auction::unused_prices` meets its contract. The prices from the count up to i are zero. Assumes nothing.
 use mathlib.Core.Path.{◌≡◌, sym}
-use Prim.Native.Nat.{ℕ, ◌-◌, ◌≤◌, ◌<◌}
 use native.Mathlib.Omega.{arith}
 use lib.ListN.{get_or}
 use borrow.Author.Count.{below_more}
-use borrow.Author.Rules.{rules}
 use Rattle.sets.proofs.Counting.{is_false}
 use Rattle.rule.specs.Sheet.{amount}
 use Rattle.live.specs.Auction.{unused_prices}

@@ -5,7 +5,6 @@ use lib.ListN.{set}
 use Rattle.reports.specs.Report.{saying}
 use Rattle.live.specs.Calls.{with_report}
 use Rattle.live.proofs.Parts.{by_parts}
-use borrow.Author.Rules.{rules}
 use Rattle.live.proofs.Auction.with_report.Goals as goal
 
 pub returns : goal.returns

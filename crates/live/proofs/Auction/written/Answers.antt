@@ -1,8 +1,6 @@
 -- `live::Auction::written` meets its contract. Assumes nothing.
 use Prim.Native.Nat.{ℕ}
 use mathlib.Core.List.{List}
-use native.Mathlib.Omega.{arith}
-use borrow.Author.Rules.{rules}
 use Rattle.live.proofs.Reading.{told, left}
 use Rattle.live.proofs.Auction.written.Goals as goal
 

@@ -1,13 +1,11 @@
 -- `live::tables::fill_all` meets its contract: the tables of the bidders done are the opening's. Assumes nothing.
-use Prim.Native.Nat.{ℕ, ◌+◌, ◌*◌, ◌-◌, ◌≤◌}
+use Prim.Native.Nat.{ℕ, ◌+◌, ◌*◌, ◌-◌}
 use mathlib.Core.Path.{◌≡◌, sym, ap, ◌∙◌}
 use mathlib.Core.List.{List}
 use native.Mathlib.Omega.{arith}
 use lib.ListN.{length, take}
 use lib.IntN.{ℤ}
-use borrow.Author.Rules.{rules}
 use borrow.Rule.Slice.PartMut.{same_len_mid}
-use Rattle.rule.specs.Refusal.{most_live_bidders}
 use Rattle.differences.specs.Table.{opening}
 use Rattle.differences.specs.Lent.{flat_all}
 use Rattle.live.specs.Tables.{open_tables}

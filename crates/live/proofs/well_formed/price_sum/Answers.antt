@@ -1,11 +1,10 @@
 -- `live::well_formed::price_sum` meets its contract. Assumes nothing.
 use mathlib.Core.Path.{◌≡◌, refl, ap, ◌∙◌}
 use mathlib.Core.List.{List}
-use Prim.Native.Nat.{ℕ, suc, ◌+◌, ◌*◌, ◌-◌, ◌≤◌}
+use Prim.Native.Nat.{ℕ, ◌+◌}
 use native.Mathlib.Omega.{arith}
 use native.Mathlib.Numerals.{add-one}
 use lib.ListN.{get_or}
-use borrow.Author.Rules.{rules}
 use Rattle.sets.specs.Sum.{sum}
 use Rattle.rule.specs.Sheet.{amount, price_sum}
 use Rattle.live.proofs.well_formed.price_sum.Invariants.{sum_of}

@@ -1,13 +1,9 @@
 -- `live::well_formed::price_sum` meets its contract. Assumes nothing.
-use mathlib.Core.Path.{◌≡◌, refl, ap, ◌∙◌}
+use mathlib.Core.Path.{◌≡◌}
 use mathlib.Core.List.{List}
-use Prim.Native.Nat.{ℕ, suc, ◌+◌, ◌*◌, ◌-◌, ◌≤◌}
-use native.Mathlib.Omega.{arith}
-use native.Mathlib.Numerals.{add-one}
-use lib.ListN.{get_or}
-use borrow.Author.Rules.{rules}
+use Prim.Native.Nat.{ℕ, suc, ◌*◌, ◌-◌, ◌≤◌}
 use Rattle.sets.specs.Sum.{sum}
-use Rattle.rule.specs.Sheet.{amount, price_sum}
+use Rattle.rule.specs.Sheet.{amount}
 use Rattle.live.proofs.well_formed.price_sum.Given as goal
 
 abbrev pub sum_of : ℕ → List ℕ → ℕ
