@@ -1,4 +1,4 @@
-//! Links what `rt staticlib` leaves in the repository of the matching's exports. The benchmark's own come with `live_calls`.
+//! Links what `bindings/library matching_exports` leaves in the repository. The benchmark's own come with `live_calls`.
 
 use std::path::PathBuf;
 

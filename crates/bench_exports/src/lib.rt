@@ -1,6 +1,6 @@
-// The live calls on a record in lent lists, and the writing of a closing sheet, for the benchmark and the comparison to link. A record is lent as its numbers
-// (items, bidders, the bidders who say null, the bidders who have reported), its prices, its floors, its item sets, and its rounds (raised, lowered, and the
-// phase: 0 rising, 1 falling, 2 closed); each call leaves the next record there. The tables are lent behind it.
+// The live calls on a record in lent lists, and the writing of a closing sheet, which `bench_exports_c` exports for the benchmark and the comparison to link. A
+// record is lent as its numbers (items, bidders, the bidders who say null, the bidders who have reported), its prices, its floors, its item sets, and its rounds
+// (raised, lowered, and the phase: 0 rising, 1 falling, 2 closed); each call leaves the next record there. The tables are lent behind it.
 #![tactic(auto)]
 
 ghost use Rattle.std.specs.Prelude.{◌≡◌, length};
@@ -91,8 +91,7 @@ fn leave(
 }
 
 // Opens an auction without floors: the number that turns it down, or 0, and the record beside it.
-#[unsafe(no_mangle)]
-pub extern "C" fn bench_open(
+pub fn bench_open(
     items: usize,
     bidders: usize,
     start: &[u16],
@@ -115,8 +114,7 @@ pub extern "C" fn bench_open(
 }
 
 // Opens one with floors, `lowest`: the same.
-#[unsafe(no_mangle)]
-pub extern "C" fn bench_open_above(
+pub fn bench_open_above(
     items: usize,
     bidders: usize,
     start: &[u16],
@@ -140,8 +138,7 @@ pub extern "C" fn bench_open_above(
 }
 
 // A bidder's report: the number that turns it down, or 0.
-#[unsafe(no_mangle)]
-pub extern "C" fn bench_report(
+pub fn bench_report(
     numbers: &mut [u64; 4],
     prices: &mut [u16; 32],
     floors: &mut [u16; 32],
@@ -164,8 +161,7 @@ pub extern "C" fn bench_report(
 }
 
 // Clears the round's reports: the number that turns it down, or 0.
-#[unsafe(no_mangle)]
-pub extern "C" fn bench_clear(
+pub fn bench_clear(
     numbers: &mut [u64; 4],
     prices: &mut [u16; 32],
     floors: &mut [u16; 32],
@@ -210,8 +206,7 @@ fn put_move(ended: Ended, moved: &mut [u32; 2])
 }
 
 // Ends the round: the number that turns it down, or 0.
-#[unsafe(no_mangle)]
-pub extern "C" fn bench_end(
+pub fn bench_end(
     numbers: &mut [u64; 4],
     prices: &mut [u16; 32],
     floors: &mut [u16; 32],
@@ -235,8 +230,7 @@ pub extern "C" fn bench_end(
 }
 
 // Reads the close: the number that turns it down, or 0 with the closing sheet at the front of `out`.
-#[unsafe(no_mangle)]
-pub extern "C" fn bench_read(
+pub fn bench_read(
     numbers: &[u64; 4],
     prices: &[u16; 32],
     floors: &[u16; 32],
@@ -251,8 +245,7 @@ pub extern "C" fn bench_read(
 }
 
 // Writes a closing sheet to the front of `out`, where there is room for it and the counts are at most 32 and 64.
-#[unsafe(no_mangle)]
-pub extern "C" fn bench_write_closing<'a>(
+pub fn bench_write_closing<'a>(
     out: &mut [u8],
     items: u32,
     bidders: u32,

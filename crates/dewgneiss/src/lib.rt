@@ -1,4 +1,4 @@
-// The sealed auction, the sheets and the tables, for Rust or C to link: a slice is passed as its address and its length.
+// The sealed auction, the sheets and the tables on lent memory. `dewgneiss_c` exports these functions for Rust or C to link.
 #![tactic(auto)]
 
 pub mod tables; // tables.rt: one bidder's table of differences
@@ -142,8 +142,7 @@ fn lend(
 // The sealed auction: starting prices, one for each item, and bids, bidder after bidder. Answers 0 and leaves rounds raised and lowered, the
 // closing prices, each bidder's item, or 0 for null, and each bidder's gain in the lent lists; or answers the number that turns the call down, and
 // leaves them as they came.
-#[unsafe(no_mangle)]
-pub extern "C" fn dewgneiss_sealed(
+pub fn dewgneiss_sealed(
     items: u32,
     bidders: u32,
     start: &[u16],
@@ -168,8 +167,7 @@ pub extern "C" fn dewgneiss_sealed(
 }
 
 // The sealed auction with floors, one for each item. Answers and leaves as above.
-#[unsafe(no_mangle)]
-pub extern "C" fn dewgneiss_sealed_above(
+pub fn dewgneiss_sealed_above(
     items: u32,
     bidders: u32,
     start: &[u16],
@@ -195,8 +193,7 @@ pub extern "C" fn dewgneiss_sealed_above(
 }
 
 // The same falling first.
-#[unsafe(no_mangle)]
-pub extern "C" fn dewgneiss_falling_first(
+pub fn dewgneiss_falling_first(
     items: u32,
     bidders: u32,
     start: &[u16],
@@ -223,8 +220,7 @@ pub extern "C" fn dewgneiss_falling_first(
 
 // Closes a bid sheet: writes the closing sheet to the front of `out` and answers 0, or answers the number that turns the sheet down and leaves
 // `out` as it came.
-#[unsafe(no_mangle)]
-pub extern "C" fn dewgneiss_close_sheet(bytes: &[u8], out: &mut [u8]) -> u8
+pub fn dewgneiss_close_sheet(bytes: &[u8], out: &mut [u8]) -> u8
     ensures { (result ≡ sheet_refusal bytes.now (length out.old))
         × (out.new ≡ closed_to bytes.now out.old) }
 {
@@ -233,8 +229,7 @@ pub extern "C" fn dewgneiss_close_sheet(bytes: &[u8], out: &mut [u8]) -> u8
 
 // Answers a bid sheet at the front of `out`, by its sheet of reasons or by the line of the number that turns it down, and says how many bytes that
 // is. Where the answer does not fit nothing is written; 253,890 bytes are room for every one.
-#[unsafe(no_mangle)]
-pub extern "C" fn dewgneiss_reasons(bytes: &[u8], out: &mut [u8]) -> usize
+pub fn dewgneiss_reasons(bytes: &[u8], out: &mut [u8]) -> usize
     ensures { (result ≡ length (answer_of bytes.now (length out.old)))
         × (out.new ≡ written_to out.old (answer_of bytes.now (length out.old))) }
 {

@@ -5,8 +5,10 @@
 ghost use Rattle.std.specs.Prelude.{length};
 ghost use Rattle.io.specs.Counts.{IsPrefixLen};
 
-use libc::{STDIN_FILENO, STDOUT_FILENO};
 use live::Auction;
+use std::io::{Read, Stdin};
+
+const STDOUT: i32 = 1;
 
 // What is kept between bytes: the record, and how many bytes of a line are in. More than there is room for: the line is too long.
 #[derive(Drop)]
@@ -38,7 +40,7 @@ fn answer(kept: Kept, line: &[u8], tables: &mut [i16]) -> Kept {
     let count = answered(kept.filled, line);
     let told = console::answer(kept.record, &line[..count], &mut out, tables);
     let length = told.length;
-    io::write_all(STDOUT_FILENO, &out[..length]);
+    io::write_all(STDOUT, &out[..length]);
     let record = told.next;
     Kept { record, filled: 0 }
 }
@@ -89,11 +91,17 @@ fn finish(kept: Kept, line: &[u8], tables: &mut [i16]) -> Turn {
     }
 }
 
+// How many bytes one read of what there is gives: none at the end of the input, and none where the read fails.
+fn read_some(input: &mut Stdin, bytes: &mut [u8]) -> usize
+    ensures { IsPrefixLen result bytes.new }
+{
+    input.read(bytes).unwrap_or(0)
+}
+
 // Reads what there is, and answers each line that it completes.
-fn take_turn(kept: Kept, line: &mut [u8], tables: &mut [i16]) -> Turn {
+fn take_turn(input: &mut Stdin, kept: Kept, line: &mut [u8], tables: &mut [i16]) -> Turn {
     let mut bytes = io::buffer();
-    let got = libc::read(STDIN_FILENO, &mut bytes);
-    let n = io::count(got, &bytes);
+    let n = read_some(input, &mut bytes);
     if n == 0 {
         return finish(kept, line, tables);
     }
@@ -113,14 +121,14 @@ fn zeros() -> Auction {
 
 // A proved loop has to end, and nothing says that the input does: the turns are counted down, from a number that no run uses up. After that
 // many reads the program would end.
-fn run(line: &mut [u8], tables: &mut [i16]) {
+fn run(input: &mut Stdin, line: &mut [u8], tables: &mut [i16]) {
     let mut kept = Kept {
         record: zeros(),
         filled: 0,
     };
     let mut turns = u64::MAX;
     while turns > 0 {
-        let t = take_turn(kept, line, tables);
+        let t = take_turn(input, kept, line, tables);
         if !t.more {
             return;
         }
@@ -129,8 +137,9 @@ fn run(line: &mut [u8], tables: &mut [i16]) {
     }
 }
 
-fn main() {
+fn main(rt: HostRuntime) {
+    let mut input = rt.stdin();
     let mut line = io::buffer();
     let mut tables = [0i16; console::HELD_NUMBERS];
-    run(&mut line, &mut tables);
+    run(&mut input, &mut line, &mut tables);
 }

@@ -2,7 +2,7 @@
 //! with tables of any kind, through the exported calls of crates/bench_exports.
 //!
 //! `compare [SHEETS] [LISTS] [SEED]`. Its last line is 'N passed, M failed': M comparisons differ, and it fails if M is not 0. The
-//! programs are looked for in `target/bin` of the repository, where `rt` leaves them.
+//! programs are looked for in `target/bin` of the repository, where `bindings/program` leaves them.
 
 mod bytes;
 mod fixed;
