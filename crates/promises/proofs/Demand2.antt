@@ -74,6 +74,8 @@ sets =
 to-order : (xs ys : List ℕ) → NotAfter xs ys → NoLater xs ys
 unfolding NoLater
 to-order [] [] same = tt
+to-order [] (y ∷ ys) never = elim never [ ]
+to-order (x ∷ xs) [] never = elim never [ ]
 to-order (x ∷ xs) (y ∷ ys) (here (lower l)) = inl (omega arith, inr l)
 to-order (x ∷ xs) (y ∷ ys) (here over_null) = inl (omega arith, inl refl)
 to-order (x ∷ xs) (y ∷ ys) (later h) = inr (refl, to-order xs ys h)
