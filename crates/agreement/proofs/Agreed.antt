@@ -1,7 +1,7 @@
 -- Instances of the agreement. On each sheet and list below the machine's answers, the record that holds what it holds, and its tables are written out, and the machine
 -- is held to them call by call: by computation from the definitions alone, save that 19, which is asked of all bids, is settled by a law. So that a list stays on
 -- its sheet is no empty premise, and a wrong definition makes one of them false. `AgreedLive` has what follows for the live auction. Assumes nothing.
-use Prim.Native.Nat.{ℕ, ◌-◌, ◌≤◌, ◌<◌}
+use Prim.Native.Nat.{ℕ, ◌≤◌, ◌<◌}
 use mathlib.Core.Path.{◌≡◌, refl, ap, ap₂, ◌∙◌}
 use mathlib.Core.Bool.{Bool, true, false, ◌||◌, cond}
 use mathlib.Core.List.{List, [], ◌∷◌, ◌++◌, map}

@@ -9,20 +9,15 @@ use native.Mathlib.Nat.{zero-add}
 use lib.ListN.{length}
 use lib.IntN.{ℤ}
 use borrow.Author.Tests.{not-false}
-use Rattle.sets.specs.Count.{◌⇒◌, any_below}
+use Rattle.sets.specs.Count.{◌⇒◌}
 use Rattle.sets.specs.Lists.{tabulate}
 use Rattle.sets.proofs.Counting.{and_left, and_right, imp_use, any_none}
-use Rattle.sets.proofs.Lists.{tabulate-at, tabulate-length, tabulate-same}
+use Rattle.sets.proofs.Lists.{tabulate-at, tabulate-length}
 use Rattle.rule.specs.Sheet.{amount, row, each4095, Sheet, within_limits}
-use Rattle.rule.specs.Demand.{Demand, demand, nth}
 use Rattle.rule.specs.Round.{Round, raised, lowered, closed}
 use Rattle.rule.specs.Assignment.{choose}
 use Rattle.rule.specs.Closing.{demands_at}
-use Rattle.rule.proofs.AtPrices.{nth-demands, demands-length}
 use Rattle.rule.proofs.Limits.{within-make}
-use Rattle.round.specs.Reports.{reports}
-use Rattle.round.proofs.Reporting.{tabulate-nth}
-use Rattle.reports.proofs.Same.{same-demand}
 use Rattle.differences.specs.Table.{some_bids, meets}
 use Rattle.differences.specs.Allowed.{explains}
 use Rattle.differences.specs.Lent.{table_at}

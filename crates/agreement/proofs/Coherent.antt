@@ -12,7 +12,7 @@ use borrow.Author.Tests.{ne_eqb}
 use Rattle.sets.proofs.Counting.{and_both}
 use Rattle.rule.specs.Sheet.{amount, each4095, Sheet}
 use Rattle.rule.specs.Closing.{demands_at}
-use Rattle.rule.specs.Refusal.{Refusal, on, first, most_live_bidders}
+use Rattle.rule.specs.Refusal.{first, most_live_bidders}
 use Rattle.rule.proofs.Closing.{closing}
 use Rattle.rule.proofs.Limits.{limits, each-make}
 use Rattle.rule.proofs.Refusal.{other, past, none-over, floors-fit}

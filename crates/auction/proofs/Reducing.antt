@@ -1,13 +1,13 @@
 -- The table of reduced bids, line after line, and that its lines are the reduced bids of the rule. Assumes nothing.
-use Prim.Native.Nat.{ℕ, zero, suc, ◌+◌, ◌-◌, ◌*◌, ◌≤◌, ◌<◌}
+use Prim.Native.Nat.{ℕ, suc, ◌+◌, ◌-◌, ◌*◌, ◌≤◌, ◌<◌}
 use mathlib.Core.Path.{◌≡◌, refl, sym, ap, ap₂, ◌∙◌, subst}
-use mathlib.Core.List.{List, ◌∷◌, map}
+use mathlib.Core.List.{List}
 use mathlib.Core.Logic.{◌⊎◌, inl, inr}
 use native.Mathlib.Omega.{arith}
 use lib.ListN.{length, get_or, set, take, length-set}
 use lib.Seq.{get_or-set_same, get_or-set_other, length-take-le, get_or-take}
 use borrow.Author.Count.{below_none, below_more}
-use Rattle.sets.specs.Lists.{tabulate, places}
+use Rattle.sets.specs.Lists.{places}
 use Rattle.sets.proofs.Counting.{below_suc}
 use Rattle.sets.proofs.Lists.{tabulate-same, is-tabulate}
 use Rattle.rule.specs.Sheet.{amount, Sheet}

@@ -6,10 +6,7 @@ use mathlib.Core.Bool.{Bool, true}
 use mathlib.Core.List.{List, [], ◌∷◌}
 use native.Mathlib.Omega.{arith}
 use native.Mathlib.Nat.{mod-lt, div-add-mod', div-lt_iff_lt-mul}
-use lib.Dec.{leb, eqb}
 use lib.ListN.{length, get_or, replicate, length-replicate}
-use borrow.Author.Tests.{le-leb, eq-eqb}
-use Rattle.sets.proofs.Counting.{all-make, and_both}
 use Rattle.rule.specs.Sheet.{amount, row, each4095, within_limits}
 use Rattle.rule.specs.Refusal.{on, first, bad_items, bad_bidders, bad_length, any_over, bad_floors}
 use Rattle.rule.proofs.Limits.{Limits, limits, each-make, within-make}

@@ -1,6 +1,6 @@
 -- The path falling first, in two halves that are rising first: its falls are those of the sheet with reduced bids, which has no rises, and its rises are those of the
 -- sheet that starts at the turn. THEORY.md 3.4. Assumes nothing.
-use Prim.Native.Nat.{ℕ, zero, suc, ◌+◌, ◌-◌, ◌≤◌, ◌<◌}
+use Prim.Native.Nat.{ℕ, zero, suc, ◌+◌, ◌≤◌, ◌<◌}
 use mathlib.Core.Path.{◌≡◌, refl, sym, ap, ◌∙◌, subst}
 use mathlib.Core.List.{List}
 use native.Mathlib.Omega.{arith}

@@ -3,10 +3,9 @@ use Prim.Native.Nat.{◌-◌, ◌≤◌, ◌<◌}
 use mathlib.Core.Path.{◌≡◌}
 use mathlib.Core.Bool.{true}
 use native.Mathlib.Omega.{arith}
-use borrow.Author.Rules.{rules}
-use Rattle.sets.specs.Bit.{is_set, size}
+use Rattle.sets.specs.Bit.{is_set}
 use Rattle.sets.proofs.Taking.{lowest-of, without-less}
-use Rattle.assignment.proofs.Demanding.{Adding, add_start, add-next, add-end}
+use Rattle.assignment.proofs.Demanding.{add_start, add-next, add-end}
 use Rattle.assignment.proofs.add_demand.Goals as goal
 
 pub loop-rest-init : goal.loop-rest-init

@@ -2,7 +2,6 @@
 use mathlib.Core.Path.{◌∙◌}
 use Rattle.sets.proofs.Words.{first-all}
 use Rattle.assignment.proofs.Completing.{complete-of}
-use borrow.Author.Rules.{rules}
 use Rattle.assignment.proofs.complete.Goals as goal
 
 pub returns : goal.returns

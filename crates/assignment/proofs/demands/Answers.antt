@@ -1,15 +1,13 @@
 -- `assignment::demands` meets its contract: each turn fills one place. Assumes nothing.
-use Prim.Native.Nat.{ℕ, ◌-◌, ◌≤◌, ◌<◌}
-use mathlib.Core.Path.{◌≡◌, ap, ◌∙◌}
+use Prim.Native.Nat.{ℕ}
+use mathlib.Core.Path.{ap, ◌∙◌}
 use mathlib.Core.Bool.{Bool}
 use native.Mathlib.Omega.{arith}
-use lib.ListN.{length, get_or, length-set, length-replicate}
+use lib.ListN.{get_or, length-set, length-replicate}
 use lib.Seq.{get_or-set_same, get_or-set_other}
 use borrow.Author.Count.{below_more}
 use Rattle.sets.specs.Bit.{is_set}
 use Rattle.rule.specs.Demand.{wants}
-use Rattle.assignment.specs.Turn.{asks}
-use borrow.Author.Rules.{rules}
 use Rattle.assignment.proofs.demands.Goals as goal
 
 pub loop-b-init : goal.loop-b-init

@@ -1,7 +1,6 @@
 -- `assignment::enter` meets its contract. Assumes nothing.
 use mathlib.Core.Path.{sym, ◌∙◌}
 use native.Mathlib.Omega.{arith}
-use borrow.Author.Rules.{rules}
 use Rattle.sets.proofs.Members.{has-one-more}
 use Rattle.assignment.proofs.Places.{with-new}
 use Rattle.assignment.proofs.Growing.{grown-same, grown-one}

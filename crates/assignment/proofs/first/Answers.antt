@@ -2,7 +2,6 @@
 use mathlib.Core.Path.{sym, ◌∙◌}
 use borrow.Author.Tests.{not-true, not-false}
 use Rattle.assignment.proofs.Unfit.{assigned-many, assigned-unfit, assigned-is}
-use borrow.Author.Rules.{rules}
 use Rattle.assignment.proofs.first.Goals as goal
 
 pub returns-then-bidders-gt64 : goal.returns-then-bidders-gt64

@@ -1,7 +1,6 @@
 -- `assignment::first_item` meets its contract. Assumes nothing.
 use mathlib.Core.Path.{sym, ◌∙◌}
 use Rattle.assignment.proofs.Places.{first-null, first-place}
-use borrow.Author.Rules.{rules}
 use Rattle.assignment.proofs.first_item.Goals as goal
 
 pub returns-then-p-eq0 : goal.returns-then-p-eq0

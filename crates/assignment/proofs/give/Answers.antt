@@ -1,7 +1,6 @@
 -- `assignment::give` meets its contract. Assumes nothing.
 use mathlib.Core.Path.{refl}
 use native.Mathlib.Omega.{arith}
-use borrow.Author.Rules.{rules}
 use Rattle.assignment.proofs.give.Goals as goal
 
 pub returns-then-b-eq0 : goal.returns-then-b-eq0

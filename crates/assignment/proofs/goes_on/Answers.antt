@@ -2,7 +2,6 @@
 use mathlib.Core.Path.{sym, ◌∙◌}
 use Rattle.sets.proofs.Members.{has-one-more}
 use Rattle.assignment.proofs.Places.{goes-spare, goes_other}
-use borrow.Author.Rules.{rules}
 use Rattle.assignment.proofs.goes_on.Goals as goal
 
 pub returns-then-has_bidder : goal.returns-then-has_bidder

@@ -1,8 +1,6 @@
 -- `assignment::held` meets its contract: the places passed are those of the set. Assumes nothing.
-use Prim.Native.Nat.{◌-◌, ◌^◌, ◌≤◌, ◌<◌}
 use native.Mathlib.Omega.{arith}
 use Rattle.sets.proofs.Taking.{member-lt}
-use Rattle.assignment.specs.Turn.{Held}
 use Rattle.assignment.proofs.Places.{held_none, held_next, held-end}
 use borrow.Author.Rules.{rules}
 use Rattle.assignment.proofs.held.Goals as goal

@@ -1,10 +1,9 @@
 -- `assignment::options` meets its contract. The options so far fill their places, can be completed, and begin the names. Assumes nothing.
-use Prim.Native.Nat.{◌-◌}
 use mathlib.Core.Path.{◌∙◌}
 use borrow.Author.Rules.{rules}
 use Rattle.sets.proofs.Words.{first-all}
 use Rattle.assignment.specs.Turn.{Demanded}
-use Rattle.assignment.proofs.Assigning.{Going, going_start, going-turn, going_next, going_end}
+use Rattle.assignment.proofs.Assigning.{going_start, going-turn, going_next, going_end}
 use Rattle.assignment.proofs.options.Goals as goal
 
 pub loop-b-init : goal.loop-b-init

@@ -1,10 +1,6 @@
 -- `assignment::options` meets its contract. The options so far fill their places, can be completed, and begin the names. Assumes nothing.
 use Prim.Native.Nat.{◌-◌}
-use mathlib.Core.Path.{◌∙◌}
-use borrow.Author.Rules.{rules}
-use Rattle.sets.proofs.Words.{first-all}
-use Rattle.assignment.specs.Turn.{Demanded}
-use Rattle.assignment.proofs.Assigning.{Going, going_start, going-turn, going_next, going_end}
+use Rattle.assignment.proofs.Assigning.{Going}
 use Rattle.assignment.proofs.options.Given as goal
 
 abbrev pub invariant-loop-b : goal.invariant-loop-b

@@ -4,7 +4,6 @@ use Prim.Native.Nat.{ℕ, ◌+◌, ◌*◌}
 use native.Mathlib.Omega.{arith}
 use Rattle.sets.specs.Bit.{is_set}
 use Rattle.assignment.proofs.Places.{places-are}
-use borrow.Author.Rules.{rules}
 use Rattle.assignment.proofs.places_of.Goals as goal
 
 pub returns-then-null : goal.returns-then-null

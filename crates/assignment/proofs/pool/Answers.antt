@@ -1,8 +1,6 @@
 -- `assignment::pool` meets its contract. Assumes nothing.
 use mathlib.Core.Path.{refl, sym, ◌∙◌}
 use mathlib.Core.Logic.{inl, inr}
-use borrow.Author.Rules.{rules}
-use borrow.Author.Tests.{not-true, not-false}
 use Rattle.sets.proofs.Members.{has-one-more}
 use Rattle.assignment.proofs.Growing.{grown-same, grown-then}
 use Rattle.assignment.proofs.pool.Goals as goal

@@ -1,10 +1,7 @@
 -- `assignment::reported` meets its contract: each turn fills one place. Assumes nothing.
 use Prim.Native.Nat.{◌-◌, ◌≤◌}
-use mathlib.Core.Path.{refl}
-use native.Mathlib.Omega.{arith}
 use lib.ListN.{get_or}
-use Rattle.sets.proofs.Filling.{Filled, fill_start, fill-next}
-use borrow.Author.Rules.{rules}
+use Rattle.sets.proofs.Filling.{Filled}
 use Rattle.assignment.proofs.reported.Given as goal
 
 abbrev pub invariant-loop-b : goal.invariant-loop-b

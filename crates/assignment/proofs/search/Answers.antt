@@ -6,8 +6,7 @@ use native.Mathlib.Omega.{arith}
 use borrow.Author.Rules.{rules}
 use Rattle.sets.specs.Bit.{is_set}
 use Rattle.sets.proofs.Taking.{member-lt}
-use Rattle.assignment.specs.Search.{Start}
-use Rattle.assignment.proofs.Searching.{Searching, root-small, next_place, search-start, q-small, turn_small, mover-small, search-next, search-settled, search-end}
+use Rattle.assignment.proofs.Searching.{root-small, next_place, search-start, q-small, turn_small, mover-small, search-next, search-settled, search-end}
 use Rattle.assignment.proofs.search.Goals as goal
 
 pub bounds-x-k : goal.bounds-x-k

@@ -1,8 +1,8 @@
 -- `assignment::seats` meets its contract: each turn seats the holder of one item. Assumes nothing.
-use Prim.Native.Nat.{ℕ, ◌+◌, ◌-◌, ◌≤◌, ◌<◌}
+use Prim.Native.Nat.{ℕ, ◌+◌}
 use mathlib.Core.Path.{◌≡◌, refl, subst}
 use native.Mathlib.Omega.{arith}
-use lib.ListN.{length, get_or, length-replicate}
+use lib.ListN.{get_or, length-replicate}
 use Rattle.assignment.specs.Turn.{Seat}
 use Rattle.assignment.proofs.Places.{seats-none, seats-next, given-long}
 use borrow.Author.Rules.{rules}

@@ -1,11 +1,8 @@
 -- `assignment::seats` meets its contract: each turn seats the holder of one item. Assumes nothing.
-use Prim.Native.Nat.{ℕ, ◌+◌, ◌-◌, ◌≤◌, ◌<◌}
-use mathlib.Core.Path.{◌≡◌, refl, subst}
-use native.Mathlib.Omega.{arith}
-use lib.ListN.{length, get_or, length-replicate}
+use Prim.Native.Nat.{ℕ, ◌-◌, ◌≤◌, ◌<◌}
+use mathlib.Core.Path.{◌≡◌}
+use lib.ListN.{length, get_or}
 use Rattle.assignment.specs.Turn.{Seat}
-use Rattle.assignment.proofs.Places.{seats-none, seats-next, given-long}
-use borrow.Author.Rules.{rules}
 use Rattle.assignment.proofs.seats.Given as goal
 
 abbrev pub invariant-loop-k : goal.invariant-loop-k

@@ -1,6 +1,5 @@
 -- `assignment::settled` meets its contract. Assumes nothing.
 use mathlib.Core.Path.{refl, sym, ◌∙◌}
-use borrow.Author.Rules.{rules}
 use Rattle.sets.proofs.Counting.{not-both}
 use Rattle.sets.proofs.Members.{has-one-more}
 use Rattle.sets.specs.Bit.{is_set}

@@ -1,11 +1,9 @@
 -- `assignment::shift` meets its contract: the way comes nearer to a with each move. Assumes nothing.
 use Prim.Native.Nat.{ℕ, ◌+◌, ◌-◌, ◌<◌}
 use mathlib.Core.Path.{◌≡◌, sym, ap, ◌∙◌, subst}
-use mathlib.Core.List.{List}
 use native.Mathlib.Omega.{arith}
 use borrow.Author.Rules.{rules}
 use lib.ListN.{get_or, set}
-use Rattle.assignment.specs.Turn.{Way}
 use Rattle.assignment.proofs.Walking.{Walking, walk_start, walk-next, walk-done, seen-small, next_small, time-small, mover-small, time-falls}
 use Rattle.assignment.proofs.shift.Goals as goal
 

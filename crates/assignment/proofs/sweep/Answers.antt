@@ -3,11 +3,10 @@ use Prim.Native.Nat.{◌-◌, ◌≤◌, ◌<◌}
 use mathlib.Core.Path.{◌≡◌}
 use mathlib.Core.Bool.{true}
 use native.Mathlib.Omega.{arith}
-use borrow.Author.Rules.{rules}
 use lib.ListN.{get_or}
-use Rattle.sets.specs.Bit.{is_set, size}
+use Rattle.sets.specs.Bit.{is_set}
 use Rattle.sets.proofs.Taking.{lowest-of, without-less}
-use Rattle.assignment.proofs.Sweeping.{Sweeping, sweep-start, sweep-next, sweep-end}
+use Rattle.assignment.proofs.Sweeping.{sweep-start, sweep-next, sweep-end}
 use Rattle.assignment.proofs.sweep.Goals as goal
 
 pub loop-rest-init : goal.loop-rest-init

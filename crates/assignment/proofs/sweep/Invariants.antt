@@ -1,13 +1,6 @@
 -- `assignment::sweep` meets its contract: each turn of the loop takes the step of one mover. Assumes nothing.
-use Prim.Native.Nat.{◌-◌, ◌≤◌, ◌<◌}
-use mathlib.Core.Path.{◌≡◌}
-use mathlib.Core.Bool.{true}
-use native.Mathlib.Omega.{arith}
-use borrow.Author.Rules.{rules}
-use lib.ListN.{get_or}
-use Rattle.sets.specs.Bit.{is_set, size}
-use Rattle.sets.proofs.Taking.{lowest-of, without-less}
-use Rattle.assignment.proofs.Sweeping.{Sweeping, sweep-start, sweep-next, sweep-end}
+use Rattle.sets.specs.Bit.{size}
+use Rattle.assignment.proofs.Sweeping.{Sweeping}
 use Rattle.assignment.proofs.sweep.Given as goal
 
 abbrev pub invariant-loop-rest : goal.invariant-loop-rest

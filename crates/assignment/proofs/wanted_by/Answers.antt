@@ -1,8 +1,6 @@
 -- `assignment::wanted_by` meets its contract: each turn adds one bidder. Assumes nothing.
-use Prim.Native.Nat.{◌-◌, ◌≤◌}
 use native.Mathlib.Omega.{arith}
-use borrow.Author.Rules.{rules}
-use Rattle.assignment.proofs.Demanding.{Wanting, wanting-start, wanting-next}
+use Rattle.assignment.proofs.Demanding.{wanting-start, wanting-next}
 use Rattle.assignment.proofs.wanted_by.Goals as goal
 
 pub loop-b-init : goal.loop-b-init

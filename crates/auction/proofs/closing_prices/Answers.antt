@@ -1,5 +1,4 @@
 -- `auction::closing_prices` meets its contract. Assumes nothing.
-use borrow.Author.Rules.{rules}
 use Rattle.auction.proofs.closing_prices.Goals as goal
 
 pub returns : goal.returns

@@ -3,7 +3,6 @@ use mathlib.Core.Path.{sym, ◌∙◌}
 use Rattle.bids.proofs.Limits.{fine}
 use Rattle.bids.proofs.Fitting.{bids-fit}
 use Rattle.auction.proofs.Sealing.{falling-refused, falling-promised, falling_is}
-use borrow.Author.Rules.{rules}
 use Rattle.auction.proofs.falling_first.Goals as goal
 
 pub returns-then-why-ne0 : goal.returns-then-why-ne0

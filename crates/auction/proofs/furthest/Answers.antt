@@ -1,10 +1,9 @@
 -- `auction::furthest` meets its contract. The most so far is the greatest of the places passed. Assumes nothing.
-use Prim.Native.Nat.{ℕ, ◌-◌, ◌≤◌}
+use Prim.Native.Nat.{ℕ, ◌-◌}
 use mathlib.Core.Path.{◌≡◌, refl, ap, ◌∙◌}
 use native.Mathlib.Omega.{arith}
 use Rattle.rule.specs.Sheet.{amount, greatest}
 use Rattle.rule.proofs.Greatest.{greatest-next}
-use borrow.Author.Rules.{rules}
 use Rattle.auction.proofs.furthest.Goals as goal
 
 pub loop-i-init : goal.loop-i-init

@@ -1,10 +1,7 @@
 -- `auction::furthest` meets its contract. The most so far is the greatest of the places passed. Assumes nothing.
-use Prim.Native.Nat.{ℕ, ◌-◌, ◌≤◌}
-use mathlib.Core.Path.{◌≡◌, refl, ap, ◌∙◌}
-use native.Mathlib.Omega.{arith}
+use Prim.Native.Nat.{◌-◌, ◌≤◌}
+use mathlib.Core.Path.{◌≡◌}
 use Rattle.rule.specs.Sheet.{amount, greatest}
-use Rattle.rule.proofs.Greatest.{greatest-next}
-use borrow.Author.Rules.{rules}
 use Rattle.auction.proofs.furthest.Given as goal
 
 abbrev pub invariant-loop-i : goal.invariant-loop-i

@@ -1,7 +1,6 @@
 -- `auction::named` meets its contract. Assumes nothing.
 use Rattle.demands.proofs.Demanding.{demanded}
 use Rattle.auction.proofs.Sealing.{named-is}
-use borrow.Author.Rules.{rules}
 use Rattle.auction.proofs.named.Goals as goal
 
 pub returns : goal.returns

@@ -1,11 +1,8 @@
 -- `auction::reduce_line` meets its contract: each turn fills one place. Assumes nothing.
-use Prim.Native.Nat.{◌-◌, ◌≤◌}
 use native.Mathlib.Omega.{arith}
-use lib.ListN.{length}
 use Rattle.sets.proofs.Tests.{at-end}
 use Rattle.auction.specs.Reduced.{ReducedTo}
 use Rattle.auction.proofs.Reducing.{line-none, line-more}
-use borrow.Author.Rules.{rules}
 use Rattle.auction.proofs.reduce_line.Goals as goal
 
 pub loop-i-init : goal.loop-i-init

@@ -1,8 +1,7 @@
 -- `auction::reduced` meets its contract: each turn fills one line. Assumes nothing.
-use Prim.Native.Nat.{ℕ, ◌-◌, ◌≤◌}
-use mathlib.Core.Path.{◌≡◌}
+use Prim.Native.Nat.{ℕ}
 use native.Mathlib.Omega.{arith}
-use lib.ListN.{length, length-replicate}
+use lib.ListN.{length-replicate}
 use Rattle.sets.proofs.Tests.{at-end}
 use Rattle.auction.specs.Reduced.{ReducedLines}
 use Rattle.auction.proofs.Reducing.{line-fits, lines_none, lines_more}

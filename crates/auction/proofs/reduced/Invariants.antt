@@ -1,12 +1,8 @@
 -- `auction::reduced` meets its contract: each turn fills one line. Assumes nothing.
-use Prim.Native.Nat.{ℕ, ◌-◌, ◌≤◌}
+use Prim.Native.Nat.{◌-◌, ◌≤◌}
 use mathlib.Core.Path.{◌≡◌}
-use native.Mathlib.Omega.{arith}
-use lib.ListN.{length, length-replicate}
-use Rattle.sets.proofs.Tests.{at-end}
+use lib.ListN.{length}
 use Rattle.auction.specs.Reduced.{ReducedLines}
-use Rattle.auction.proofs.Reducing.{line-fits, lines_none, lines_more}
-use borrow.Author.Rules.{rules}
 use Rattle.auction.proofs.reduced.Given as goal
 
 abbrev pub invariant-loop-b : goal.invariant-loop-b

@@ -2,7 +2,6 @@
 use Rattle.bids.specs.Lent.{sheet_above}
 use Rattle.bids.proofs.Limits.{accepted-within}
 use Rattle.auction.proofs.Settling.{ready, last-is, raised_is, lowered_is}
-use borrow.Author.Rules.{rules}
 use Rattle.auction.proofs.rounds.Goals as goal
 
 pub returns : goal.returns

@@ -8,7 +8,6 @@ use lib.Seq.{length-take-le}
 use Rattle.sets.proofs.Filling.{take-zeros}
 use Rattle.auction.specs.Sealed.{sealed_above_of}
 use Rattle.auction.proofs.Sealing.{too-many-items, zero-floors, sealed-promised}
-use borrow.Author.Rules.{rules}
 use Rattle.auction.proofs.sealed.Goals as goal
 
 pub returns-then-items-gt32 : goal.returns-then-items-gt32

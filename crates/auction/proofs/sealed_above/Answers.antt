@@ -3,7 +3,6 @@ use mathlib.Core.Path.{sym, ◌∙◌}
 use Rattle.bids.proofs.Limits.{fine}
 use Rattle.bids.proofs.Fitting.{bids-fit}
 use Rattle.auction.proofs.Sealing.{above-refused, above-promised, sealed-is}
-use borrow.Author.Rules.{rules}
 use Rattle.auction.proofs.sealed_above.Goals as goal
 
 pub returns-then-why-ne0 : goal.returns-then-why-ne0

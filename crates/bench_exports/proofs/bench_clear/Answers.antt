@@ -4,7 +4,6 @@ use Rattle.live.specs.Calls.{clear}
 use Rattle.live.specs.declared.Auction.{Auction}
 use Rattle.live.specs.declared.Reply.{Reply}
 use Rattle.bench_exports.proofs.Lent.{stands}
-use borrow.Author.Rules.{rules}
 use Rattle.bench_exports.proofs.bench_clear.Goals as goal
 
 pub returns : goal.returns

@@ -4,7 +4,6 @@ use Rattle.live.specs.Calls.{end_answer, end_next, end_tables}
 use Rattle.live.specs.declared.Auction.{Auction}
 use Rattle.bench_exports.specs.Lent.{end_number_of, move_in}
 use Rattle.bench_exports.proofs.Lent.{stands}
-use borrow.Author.Rules.{rules}
 use Rattle.bench_exports.proofs.bench_end.Goals as goal
 
 pub returns : goal.returns

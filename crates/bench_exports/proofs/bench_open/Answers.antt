@@ -2,7 +2,6 @@
 use mathlib.Core.Path.{ap}
 use Rattle.live.specs.declared.Reply.{Reply}
 use Rattle.bench_exports.proofs.Lent.{stands}
-use borrow.Author.Rules.{rules}
 use Rattle.bench_exports.proofs.bench_open.Goals as goal
 
 pub returns : goal.returns

@@ -2,7 +2,6 @@
 use mathlib.Core.Path.{ap, ◌∙◌}
 use Rattle.live.specs.Reading.{read_number, read_bytes}
 use Rattle.live.specs.declared.Auction.{Auction}
-use borrow.Author.Rules.{rules}
 use Rattle.bench_exports.proofs.bench_read.Goals as goal
 
 pub returns : goal.returns

@@ -1,7 +1,6 @@
 -- `bench_exports::end_number` meets its contract. Assumes nothing.
 use Rattle.live.specs.Calls.{ending_of}
 use Rattle.bench_exports.specs.Lent.{end_number_of}
-use borrow.Author.Rules.{rules}
 use Rattle.bench_exports.proofs.end_number.Goals as goal
 
 pub returns-in-Moved : goal.returns-in-Moved

@@ -1,6 +1,5 @@
 -- `bench_exports::phase_number` meets its contract. Assumes nothing.
 use Rattle.bench_exports.specs.Lent.{phase_number}
-use borrow.Author.Rules.{rules}
 use Rattle.bench_exports.proofs.phase_number.Goals as goal
 
 pub returns-in-Rising : goal.returns-in-Rising

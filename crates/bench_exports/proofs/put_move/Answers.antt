@@ -1,7 +1,6 @@
 -- `bench_exports::put_move` meets its contract. Assumes nothing.
 use Rattle.live.specs.Calls.{ending_of, move_of}
 use Rattle.bench_exports.specs.Lent.{move_in}
-use borrow.Author.Rules.{rules}
 use Rattle.bench_exports.proofs.put_move.Goals as goal
 
 pub returns-in-Raised : goal.returns-in-Raised

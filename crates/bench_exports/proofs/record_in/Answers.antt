@@ -1,6 +1,5 @@
 -- `bench_exports::record_in` meets its contract. Assumes nothing.
 use Rattle.bench_exports.specs.Lent.{record_in}
-use borrow.Author.Rules.{rules}
 use Rattle.bench_exports.proofs.record_in.Goals as goal
 
 pub returns : goal.returns

@@ -2,7 +2,6 @@
 use mathlib.Core.Path.{refl, sym, ◌∙◌}
 use native.Mathlib.Omega.{arith}
 use Rattle.bids.proofs.Showing.{asked, line-none, line-is}
-use borrow.Author.Rules.{rules}
 use Rattle.bids.proofs.line.Goals as goal
 
 pub returns-then-line_refusal-ne0 : goal.returns-then-line_refusal-ne0

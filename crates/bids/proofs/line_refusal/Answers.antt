@@ -4,7 +4,6 @@ use mathlib.Core.Path.{sym, ◌∙◌}
 use Rattle.rule.specs.Refusal.{bad_items, bad_bidders, bad_length, bad_bidder}
 use Rattle.rule.proofs.Refusal.{passed, given, first-nil, in-range, exact, inexact}
 use Rattle.bids.specs.Line.{line_refusal}
-use borrow.Author.Rules.{rules}
 use Rattle.bids.proofs.line_refusal.Goals as goal
 
 pub returns-then-outside : goal.returns-then-outside

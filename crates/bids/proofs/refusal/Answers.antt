@@ -10,7 +10,6 @@ use Rattle.rule.specs.Refusal.{bad_items}
 use Rattle.rule.proofs.Refusal.{given, over-range}
 use Rattle.bids.specs.Refusal.{sealed_refusal, sealed_above_refusal}
 use Rattle.bids.proofs.Limits.{without_floors}
-use borrow.Author.Rules.{rules}
 use Rattle.bids.proofs.refusal.Goals as goal
 
 pub returns-then-items-gt32 : goal.returns-then-items-gt32

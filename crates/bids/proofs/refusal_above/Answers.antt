@@ -1,7 +1,7 @@
 -- `bids::refusal_above` meets its contract. Each number is given where its condition is the first that holds. Assumes nothing.
 use Rattle.std.proofs.Common.{arith, ◌≡◌, false, sym, ◌∙◌}
 use Rattle.std.proofs.lemmas.Grind.{common_steps}
-use Rattle.rule.specs.Refusal.{on, first, bad_items, bad_bidders, bad_length, any_over, bad_floors}
+use Rattle.rule.specs.Refusal.{first, bad_items, bad_bidders, bad_length, any_over}
 use Rattle.rule.proofs.Refusal.{none-over-all, floors-test}
 use Rattle.bids.specs.Refusal.{sealed_above_refusal}
 use Rattle.bids.proofs.refusal_above.Goals as goal

@@ -5,7 +5,6 @@ use native.Mathlib.Omega.{arith}
 use lib.ListN.{take, drop}
 use Rattle.bids.specs.Lent.{line_of}
 use Rattle.bids.proofs.Rows.{few-numbers, too_wide, too_short, row_is, start_is}
-use borrow.Author.Rules.{rules}
 use Rattle.bids.proofs.row.Goals as goal
 
 pub returns-then-columns-gt64 : goal.returns-then-columns-gt64

@@ -4,7 +4,6 @@ use mathlib.Core.Path.{◌≡◌, sym, ◌∙◌}
 use mathlib.Core.Option.{some, some-injective}
 use native.Mathlib.Omega.{arith}
 use lib.ListN.{get_or}
-use borrow.Author.Rules.{rules}
 use Rattle.digits.specs.Reading.{number_at}
 use Rattle.digits.proofs.Numbers.{number_read}
 use Rattle.console.specs.Orders.{amounts_of}

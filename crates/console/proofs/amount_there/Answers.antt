@@ -3,7 +3,6 @@ use Prim.Native.Nat.{ℕ, ◌+◌, ◌*◌}
 use mathlib.Core.Path.{sym, ap}
 use mathlib.Core.Option.{Option}
 use native.Mathlib.Omega.{arith}
-use borrow.Author.Rules.{rules}
 use Rattle.console.specs.Steps.{is_read}
 use Rattle.console.proofs.Lines.{number_is, number-not}
 use Rattle.console.proofs.amount_there.Goals as goal

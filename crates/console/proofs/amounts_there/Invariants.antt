@@ -1,15 +1,9 @@
 -- `console::amounts_there` meets its contract. Assumes nothing.
-use Prim.Native.Nat.{ℕ, ◌+◌, ◌*◌, ◌-◌, ◌%◌, ◌≤◌, ◌<◌}
-use mathlib.Core.Path.{◌≡◌, sym, ap, ◌∙◌}
+use Prim.Native.Nat.{ℕ, ◌+◌, ◌*◌, ◌-◌, ◌≤◌, ◌<◌}
+use mathlib.Core.Path.{◌≡◌}
 use mathlib.Core.Bool.{true}
-use native.Mathlib.Omega.{arith}
-use lib.ListN.{length}
-use borrow.Author.Rules.{rules}
-use borrow.Author.Count.{below_more}
-use borrow.Author.Tests.{not-true, not-false}
 use Rattle.digits.specs.Reading.{number_at}
 use Rattle.console.specs.Steps.{is_read}
-use Rattle.console.proofs.Amounts.{odd-amounts, amounts-gone, amounts-read}
 use Rattle.console.proofs.amounts_there.Given as goal
 
 abbrev pub invariant-loop-i : goal.invariant-loop-i

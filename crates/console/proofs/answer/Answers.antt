@@ -1,5 +1,4 @@
 -- `console::answer` meets its contract. Assumes nothing.
-use borrow.Author.Rules.{rules}
 use Rattle.console.proofs.Answering.{other-tables, no_room, with-room}
 use Rattle.console.proofs.answer.Goals as goal
 

@@ -1,6 +1,5 @@
 -- `console::carry_out` meets its contract. Assumes nothing.
 use mathlib.Core.Path.{refl}
-use borrow.Author.Rules.{rules}
 use Rattle.console.proofs.Answering.{answers, part_length, told-open, told-above, told-report, told-end, told-clear, told-read, told_none, open-amounts, open-items, above-items, end-items}
 use Rattle.console.proofs.carry_out.Goals as goal
 

@@ -1,6 +1,5 @@
 -- `console::ended` meets its contract. Assumes nothing.
 use mathlib.Core.Path.{◌≡◌, ap, ◌∙◌}
-use borrow.Author.Rules.{rules}
 use Rattle.rule.specs.Round.{raised, lowered, closed}
 use Rattle.live.specs.Calls.{gives, refused, move_of, ending_of}
 use Rattle.live.specs.declared.Kind.{Kind}

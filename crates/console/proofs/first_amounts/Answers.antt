@@ -1,13 +1,6 @@
 -- `console::first_amounts` meets its contract. Assumes nothing.
-use Prim.Native.Nat.{◌-◌}
-use mathlib.Core.Path.{◌≡◌}
-use mathlib.Core.Bool.{true}
-use lib.ListN.{get_or}
-use borrow.Author.Rules.{rules}
 use Rattle.sets.specs.Lists.{places}
-use Rattle.sets.proofs.Filling.{Filled, fill_start, fill-next, fill_end}
-use Rattle.console.specs.Orders.{amounts_at, amounts_of}
-use Rattle.console.specs.Steps.{is_read}
+use Rattle.sets.proofs.Filling.{fill_start, fill-next, fill_end}
 use Rattle.console.proofs.first_amounts.Goals as goal
 
 pub loop-i-init : goal.loop-i-init

@@ -3,9 +3,7 @@ use Prim.Native.Nat.{◌-◌}
 use mathlib.Core.Path.{◌≡◌}
 use mathlib.Core.Bool.{true}
 use lib.ListN.{get_or}
-use borrow.Author.Rules.{rules}
-use Rattle.sets.specs.Lists.{places}
-use Rattle.sets.proofs.Filling.{Filled, fill_start, fill-next, fill_end}
+use Rattle.sets.proofs.Filling.{Filled}
 use Rattle.console.specs.Orders.{amounts_at, amounts_of}
 use Rattle.console.specs.Steps.{is_read}
 use Rattle.console.proofs.first_amounts.Given as goal

@@ -1,5 +1,4 @@
 -- `console::moved` meets its contract. Assumes nothing.
-use borrow.Author.Rules.{rules}
 use Rattle.console.proofs.Writing.{move-put}
 use Rattle.console.proofs.moved.Goals as goal
 

@@ -1,7 +1,6 @@
 -- `console::open_by` meets its contract. Assumes nothing.
 use Prim.Native.Nat.{ℕ}
 use mathlib.Core.Path.{ap, ◌∙◌}
-use borrow.Author.Rules.{rules}
 use Rattle.live.specs.Calls.{filled_by}
 use Rattle.console.specs.Orders.{amounts_of}
 use Rattle.console.proofs.Amounts.{read_count}

@@ -4,7 +4,6 @@ use mathlib.Core.Path.{sym, ap₂, ◌∙◌}
 use mathlib.Core.List.{List}
 use native.Mathlib.Omega.{arith}
 use lib.Seq.{length-take-le}
-use borrow.Author.Rules.{rules}
 use Rattle.live.specs.Calls.{open_above_number, open_above, filled_by}
 use Rattle.console.proofs.Enough.{split-starts, split-floors}
 use Rattle.console.proofs.open_split.Goals as goal

@@ -3,7 +3,6 @@ use mathlib.Core.Path.{◌≡◌, ap, ◌∙◌}
 use native.Mathlib.Omega.{arith}
 use lib.ListN.{length}
 use lib.Seq.{length-sets}
-use borrow.Author.Rules.{rules}
 use Rattle.lines.specs.Lines.{number_text}
 use Rattle.lines.proofs.Numbered.{two-put}
 use Rattle.console.proofs.Writing.{open_kept, open-put}

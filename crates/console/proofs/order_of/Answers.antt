@@ -1,5 +1,4 @@
 -- `console::order_of` meets its contract. Assumes nothing.
-use borrow.Author.Rules.{rules}
 use Rattle.console.proofs.Lines.{opens-it, opens-above-it, reports-it, not-one, one-letter}
 use Rattle.console.proofs.order_of.Goals as goal
 

@@ -1,7 +1,6 @@
 -- `console::priced` meets its contract. Assumes nothing.
 use mathlib.Core.Path.{refl}
 use native.Mathlib.Omega.{arith}
-use borrow.Author.Rules.{rules}
 use Rattle.console.proofs.Writing.{prices-put}
 use Rattle.console.proofs.priced.Goals as goal
 

@@ -1,5 +1,4 @@
 -- `console::put_round` meets its contract. Assumes nothing.
-use borrow.Author.Rules.{rules}
 use Rattle.console.proofs.Writing.{round-put}
 use Rattle.console.proofs.put_round.Goals as goal
 

@@ -1,5 +1,4 @@
 -- `console::replied` meets its contract. Assumes nothing.
-use borrow.Author.Rules.{rules}
 use Rattle.console.proofs.Writing.{reply-put}
 use Rattle.console.proofs.replied.Goals as goal
 

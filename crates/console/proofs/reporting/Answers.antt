@@ -2,7 +2,6 @@
 use mathlib.Core.Path.{◌≡◌}
 use mathlib.Core.Option.{some}
 use native.Mathlib.Omega.{arith}
-use borrow.Author.Rules.{rules}
 use Rattle.digits.specs.Reading.{number_at}
 use Rattle.console.proofs.Lines.{number_is, number-not, not-long, no-bidder, no-null, no-set, other-null, a-report}
 use Rattle.console.proofs.reporting.Goals as goal

@@ -4,7 +4,6 @@ use mathlib.Core.Path.{refl}
 use mathlib.Core.List.{List}
 use native.Mathlib.Omega.{arith}
 use lib.ListN.{length}
-use borrow.Author.Rules.{rules}
 use borrow.Rule.Slice.PartMut.{put_mid}
 use Rattle.rule.specs.Refusal.{most_live_bidders}
 use Rattle.console.proofs.Showing.{shown-number, shown-sheet, shown-small}

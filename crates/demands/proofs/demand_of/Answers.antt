@@ -1,13 +1,11 @@
 -- `demands::demand_of` meets its contract. The items so far are those of the highest surplus that are bid for. Assumes nothing.
-use Prim.Native.Nat.{◌-◌, ◌≤◌}
-use mathlib.Core.Path.{◌≡◌, refl, ◌∙◌}
+use mathlib.Core.Path.{refl, ◌∙◌}
 use native.Mathlib.Omega.{arith}
 use lib.ListN.{length}
 use Rattle.sets.specs.Bit.{set_of}
 use Rattle.rule.specs.Demand.{demand}
 use Rattle.round.proofs.Adding.{add-next, add-end}
 use Rattle.demands.proofs.Surplus.{demanded_at, item-test, null-test}
-use borrow.Author.Rules.{rules}
 use Rattle.demands.proofs.demand_of.Goals as goal
 
 pub returns-then-line-gt32 : goal.returns-then-line-gt32

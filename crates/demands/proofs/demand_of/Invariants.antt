@@ -1,13 +1,9 @@
 -- `demands::demand_of` meets its contract. The items so far are those of the highest surplus that are bid for. Assumes nothing.
 use Prim.Native.Nat.{◌-◌, ◌≤◌}
-use mathlib.Core.Path.{◌≡◌, refl, ◌∙◌}
-use native.Mathlib.Omega.{arith}
+use mathlib.Core.Path.{◌≡◌}
 use lib.ListN.{length}
 use Rattle.sets.specs.Bit.{set_of}
-use Rattle.rule.specs.Demand.{demand}
-use Rattle.round.proofs.Adding.{add-next, add-end}
-use Rattle.demands.proofs.Surplus.{demanded_at, item-test, null-test}
-use borrow.Author.Rules.{rules}
+use Rattle.demands.proofs.Surplus.{demanded_at}
 use Rattle.demands.proofs.demand_of.Given as goal
 
 abbrev pub invariant-loop-i : goal.invariant-loop-i

@@ -1,11 +1,9 @@
 -- `demands::demands_at` meets its contract. Each turn collects one bidder's demand. Assumes nothing.
-use Prim.Native.Nat.{◌-◌}
 use mathlib.Core.Path.{sym, ◌∙◌}
 use native.Mathlib.Omega.{arith}
 use lib.ListN.{length}
 use borrow.Author.Tests.{not-true, not-false}
-use Rattle.demands.proofs.Demanding.{Complete, is-complete, nobody, Collected, collect-start, line-short, collect-next, collect-end}
-use borrow.Author.Rules.{rules}
+use Rattle.demands.proofs.Demanding.{is-complete, nobody, collect-start, line-short, collect-next, collect-end}
 use Rattle.demands.proofs.demands_at.Goals as goal
 
 pub returns-then-not-complete : goal.returns-then-not-complete

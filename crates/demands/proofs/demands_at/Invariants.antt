@@ -1,11 +1,7 @@
 -- `demands::demands_at` meets its contract. Each turn collects one bidder's demand. Assumes nothing.
 use Prim.Native.Nat.{◌-◌}
-use mathlib.Core.Path.{sym, ◌∙◌}
-use native.Mathlib.Omega.{arith}
 use lib.ListN.{length}
-use borrow.Author.Tests.{not-true, not-false}
-use Rattle.demands.proofs.Demanding.{Complete, is-complete, nobody, Collected, collect-start, line-short, collect-next, collect-end}
-use borrow.Author.Rules.{rules}
+use Rattle.demands.proofs.Demanding.{Complete, Collected}
 use Rattle.demands.proofs.demands_at.Given as goal
 
 abbrev pub invariant-loop-b : goal.invariant-loop-b

@@ -1,12 +1,11 @@
 -- `demands::highest` meets its contract. The top so far is the highest surplus of the items passed. Assumes nothing.
-use Prim.Native.Nat.{ℕ, ◌-◌, ◌≤◌}
+use Prim.Native.Nat.{ℕ, ◌-◌}
 use mathlib.Core.Path.{◌≡◌, refl, ap, ◌∙◌}
 use native.Mathlib.Omega.{arith}
 use lib.ListN.{length}
 use Rattle.rule.specs.Sheet.{amount, greatest}
 use Rattle.rule.specs.Demand.{surplus}
 use Rattle.rule.proofs.Greatest.{greatest-next}
-use borrow.Author.Rules.{rules}
 use Rattle.demands.proofs.highest.Goals as goal
 
 pub loop-i-init : goal.loop-i-init

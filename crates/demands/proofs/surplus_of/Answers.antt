@@ -2,7 +2,6 @@
 use mathlib.Core.Path.{◌∙◌}
 use native.Mathlib.Omega.{arith}
 use Rattle.demands.proofs.Surplus.{line-surplus, long-surplus}
-use borrow.Author.Rules.{rules}
 use Rattle.demands.proofs.surplus_of.Goals as goal
 
 pub returns-then-line-le32 : goal.returns-then-line-le32

@@ -1,7 +1,6 @@
 -- `dewgneiss::dewgneiss_falling_first` meets its contract. Assumes nothing.
 use mathlib.Core.Path.{sym, ap, ◌∙◌}
 use Rattle.auction.specs.declared.Closing.{Closing}
-use borrow.Author.Rules.{rules}
 use Rattle.dewgneiss.proofs.Results.{lent-falling, lent, counts-falling}
 use Rattle.dewgneiss.proofs.dewgneiss_falling_first.Goals as goal
 

@@ -1,7 +1,6 @@
 -- `dewgneiss::dewgneiss_sealed` meets its contract. Assumes nothing.
 use mathlib.Core.Path.{sym, ap, ◌∙◌}
 use Rattle.auction.specs.declared.Closing.{Closing}
-use borrow.Author.Rules.{rules}
 use Rattle.dewgneiss.proofs.Results.{lent-sealed, lent, counts-sealed}
 use Rattle.dewgneiss.proofs.dewgneiss_sealed.Goals as goal
 

@@ -1,7 +1,6 @@
 -- `dewgneiss::dewgneiss_sealed_above` meets its contract. Assumes nothing.
 use mathlib.Core.Path.{sym, ap, ◌∙◌}
 use Rattle.auction.specs.declared.Closing.{Closing}
-use borrow.Author.Rules.{rules}
 use Rattle.dewgneiss.proofs.Results.{lent_above, lent, counts-above}
 use Rattle.dewgneiss.proofs.dewgneiss_sealed_above.Goals as goal
 

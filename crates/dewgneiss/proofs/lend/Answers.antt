@@ -4,7 +4,6 @@ use native.Mathlib.Omega.{arith}
 use Prim.Native.Nat.{ℕ}
 use Rattle.sets.specs.Lists.{places}
 use Rattle.dewgneiss.specs.Lent.{with_lengths}
-use borrow.Author.Rules.{rules}
 use Rattle.dewgneiss.proofs.Accepted.{no_number, accepted}
 use Rattle.dewgneiss.proofs.Results.{kept}
 use Rattle.dewgneiss.proofs.lend.Goals as goal

@@ -1,7 +1,5 @@
 -- `dewgneiss::put_amounts` meets its contract. Assumes nothing.
-use Prim.Native.Nat.{◌-◌}
-use borrow.Author.Rules.{rules}
-use Rattle.dewgneiss.proofs.Copying.{Copied, copied_none, copied_more, copied_all}
+use Rattle.dewgneiss.proofs.Copying.{copied_none, copied_more, copied_all}
 use Rattle.dewgneiss.proofs.put_amounts.Goals as goal
 
 pub loop-i-init : goal.loop-i-init

@@ -1,7 +1,5 @@
 -- `dewgneiss::put_options` meets its contract. Assumes nothing.
-use Prim.Native.Nat.{◌-◌}
-use borrow.Author.Rules.{rules}
-use Rattle.dewgneiss.proofs.Copying.{Copied, copied_none, copied_more, copied_all}
+use Rattle.dewgneiss.proofs.Copying.{copied_none, copied_more, copied_all}
 use Rattle.dewgneiss.proofs.put_options.Goals as goal
 
 pub loop-b-init : goal.loop-b-init

@@ -1,6 +1,5 @@
 -- `least::at` meets its contract. An item's place is one below its number. Assumes nothing.
 use Rattle.least.proofs.Distances.{option-null, option-item}
-use borrow.Author.Rules.{rules}
 use Rattle.least.proofs.at.Goals as goal
 
 pub returns-then-i-eq0 : goal.returns-then-i-eq0

@@ -1,7 +1,6 @@
 -- `least::balance` meets its contract. Assumes nothing.
 use mathlib.Core.Path.{refl}
 use Rattle.least.proofs.Balancing.{transposed-standing, options, balanced}
-use borrow.Author.Rules.{rules}
 use Rattle.least.proofs.balance.Goals as goal
 
 pub put_all-requires : goal.put_all-requires

@@ -11,7 +11,6 @@ use Rattle.bids.proofs.Fitting.{bids-fit}
 use Rattle.least.proofs.Lifting.{from_zero}
 use Rattle.least.proofs.Narrowing.{narrow-least}
 use Rattle.least.proofs.Starting.{from-floors, from_start, floors-below, short-floors, short-start}
-use borrow.Author.Rules.{rules}
 use Rattle.least.proofs.close_and_turn.Goals as goal
 
 -- no number turns the sheet down

@@ -3,9 +3,7 @@ use Prim.Native.Nat.{ℕ}
 use mathlib.Core.Path.{ap, ◌∙◌}
 use native.Mathlib.Omega.{arith}
 use lib.ListN.{length, length-replicate}
-use Rattle.least.specs.Putting.{left_count}
-use Rattle.least.proofs.Descending.{Falling, fall-lowest, fall-start, fall-small, fall-end, fall-holder, fall-enters, fall-fewer, fall-nearest, fall-next}
-use borrow.Author.Rules.{rules}
+use Rattle.least.proofs.Descending.{fall-lowest, fall-start, fall-small, fall-end, fall-holder, fall-enters, fall-fewer, fall-nearest, fall-next}
 use Rattle.least.proofs.descend.Goals as goal
 
 pub relax-low-requires : goal.relax-low-requires

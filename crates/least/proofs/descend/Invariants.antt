@@ -1,11 +1,6 @@
 -- `least::descend` meets its contract: each turn enters the nearest item, until none is left. Assumes nothing.
-use Prim.Native.Nat.{ℕ}
-use mathlib.Core.Path.{ap, ◌∙◌}
-use native.Mathlib.Omega.{arith}
-use lib.ListN.{length, length-replicate}
 use Rattle.least.specs.Putting.{left_count}
-use Rattle.least.proofs.Descending.{Falling, fall-lowest, fall-start, fall-small, fall-end, fall-holder, fall-enters, fall-fewer, fall-nearest, fall-next}
-use borrow.Author.Rules.{rules}
+use Rattle.least.proofs.Descending.{Falling}
 use Rattle.least.proofs.descend.Given as goal
 
 abbrev pub invariant-loop-next : goal.invariant-loop-next

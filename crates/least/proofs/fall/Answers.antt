@@ -3,7 +3,6 @@ use mathlib.Core.Path.{refl, sym}
 use native.Mathlib.Omega.{arith}
 use lib.Seq.{length-take-le}
 use Rattle.least.proofs.Lowering.{descends, lowered}
-use borrow.Author.Rules.{rules}
 use Rattle.least.proofs.fall.Goals as goal
 
 pub seated-requires : goal.seated-requires

@@ -1,7 +1,6 @@
 -- `least::give` meets its contract. Assumes nothing.
 use mathlib.Core.Path.{refl}
 use native.Mathlib.Omega.{arith}
-use borrow.Author.Rules.{rules}
 use Rattle.least.proofs.give.Goals as goal
 
 pub returns-then-option-eq0 : goal.returns-then-option-eq0

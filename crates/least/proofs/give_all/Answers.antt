@@ -1,10 +1,8 @@
 -- `least::give_all` meets its contract: each turn gives one bidder their option. Assumes nothing.
-use Prim.Native.Nat.{◌-◌, ◌≤◌}
 use native.Mathlib.Omega.{arith}
 use Rattle.sets.proofs.Tests.{at-end}
 use Rattle.least.specs.Transposing.{Given}
 use Rattle.least.proofs.Giving.{given-none, given-next, given-fits}
-use borrow.Author.Rules.{rules}
 use Rattle.least.proofs.give_all.Goals as goal
 
 pub loop-b-init : goal.loop-b-init

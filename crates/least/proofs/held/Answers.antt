@@ -1,9 +1,6 @@
 -- `least::held` meets its contract: each turn fills one place. Assumes nothing.
-use Prim.Native.Nat.{◌-◌, ◌≤◌}
 use native.Mathlib.Omega.{arith}
-use Rattle.least.specs.Steps.{LeftBy}
 use Rattle.least.proofs.Numbering.{left-none, left-more, left_end}
-use borrow.Author.Rules.{rules}
 use Rattle.least.proofs.held.Goals as goal
 
 pub loop-x-init : goal.loop-x-init

@@ -1,9 +1,6 @@
 -- `least::held` meets its contract: each turn fills one place. Assumes nothing.
 use Prim.Native.Nat.{◌-◌, ◌≤◌}
-use native.Mathlib.Omega.{arith}
 use Rattle.least.specs.Steps.{LeftBy}
-use Rattle.least.proofs.Numbering.{left-none, left-more, left_end}
-use borrow.Author.Rules.{rules}
 use Rattle.least.proofs.held.Given as goal
 
 abbrev pub invariant-loop-x : goal.invariant-loop-x

@@ -1,8 +1,7 @@
 -- `least::item_with` meets its contract: each turn looks at one place. Assumes nothing.
-use Prim.Native.Nat.{ℕ, ◌-◌, ◌≤◌}
+use Prim.Native.Nat.{ℕ}
 use mathlib.Core.Path.{◌≡◌, subst}
 use native.Mathlib.Omega.{arith}
-use borrow.Author.Rules.{rules}
 use Rattle.least.specs.Steps.{WithDistance}
 use Rattle.least.proofs.Distances.{with_none, with-more}
 use Rattle.least.proofs.item_with.Goals as goal

@@ -1,10 +1,6 @@
 -- `least::item_with` meets its contract: each turn looks at one place. Assumes nothing.
-use Prim.Native.Nat.{ℕ, ◌-◌, ◌≤◌}
-use mathlib.Core.Path.{◌≡◌, subst}
-use native.Mathlib.Omega.{arith}
-use borrow.Author.Rules.{rules}
+use Prim.Native.Nat.{◌-◌, ◌≤◌}
 use Rattle.least.specs.Steps.{WithDistance}
-use Rattle.least.proofs.Distances.{with_none, with-more}
 use Rattle.least.proofs.item_with.Given as goal
 
 abbrev pub invariant-loop-x : goal.invariant-loop-x

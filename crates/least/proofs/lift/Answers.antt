@@ -5,7 +5,6 @@ use mathlib.Core.Bool.{◌||◌}
 use native.Mathlib.Omega.{arith}
 use lib.Dec.{eqb}
 use Rattle.sets.specs.Bit.{has, set_of}
-use borrow.Author.Rules.{rules}
 use Rattle.least.proofs.lift.Goals as goal
 
 pub returns-then-start-prices : goal.returns-then-start-prices

@@ -1,10 +1,8 @@
 -- `least::lift_all` meets its contract: each turn lifts one price. Assumes nothing.
-use Prim.Native.Nat.{◌-◌, ◌≤◌}
 use native.Mathlib.Omega.{arith}
 use Rattle.sets.proofs.Tests.{at-end}
 use Rattle.least.specs.Lifting.{Lifted}
 use Rattle.least.proofs.Lifting.{lifted-none, lifted-next}
-use borrow.Author.Rules.{rules}
 use Rattle.least.proofs.lift_all.Goals as goal
 
 pub loop-x-init : goal.loop-x-init

@@ -1,10 +1,6 @@
 -- `least::lift_all` meets its contract: each turn lifts one price. Assumes nothing.
 use Prim.Native.Nat.{◌-◌, ◌≤◌}
-use native.Mathlib.Omega.{arith}
-use Rattle.sets.proofs.Tests.{at-end}
 use Rattle.least.specs.Lifting.{Lifted}
-use Rattle.least.proofs.Lifting.{lifted-none, lifted-next}
-use borrow.Author.Rules.{rules}
 use Rattle.least.proofs.lift_all.Given as goal
 
 abbrev pub invariant-loop-x : goal.invariant-loop-x

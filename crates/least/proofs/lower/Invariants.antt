@@ -1,12 +1,7 @@
 -- `least::lower` meets its contract: each turn lowers one price. Assumes nothing.
 use Prim.Native.Nat.{◌-◌, ◌≤◌}
-use native.Mathlib.Omega.{arith}
-use native.Mathlib.Nat.{le_refl}
 use lib.ListN.{get_or}
-use Rattle.sets.proofs.Tests.{at-end}
 use Rattle.least.specs.Putting.{Changed}
-use Rattle.least.proofs.Changing.{changed-none, changed-more}
-use borrow.Author.Rules.{rules}
 use Rattle.least.proofs.lower.Given as goal
 
 abbrev pub invariant-loop-i : goal.invariant-loop-i

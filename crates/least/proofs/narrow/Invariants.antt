@@ -1,10 +1,7 @@
 -- `least::narrow` meets its contract: each turn fills one place. Assumes nothing.
 use Prim.Native.Nat.{◌-◌}
-use mathlib.Core.Path.{refl}
 use lib.ListN.{get_or}
-use Rattle.sets.specs.Lists.{places}
-use Rattle.sets.proofs.Filling.{Filled, fill_start, fill-next, fill_end}
-use borrow.Author.Rules.{rules}
+use Rattle.sets.proofs.Filling.{Filled}
 use Rattle.least.proofs.narrow.Given as goal
 
 abbrev pub invariant-loop-x : goal.invariant-loop-x

@@ -3,7 +3,6 @@ use Prim.Native.Nat.{◌-◌}
 use mathlib.Core.Path.{refl}
 use native.Mathlib.Omega.{arith}
 use Rattle.least.proofs.Distances.{nearest-null, nearest-item}
-use borrow.Author.Rules.{rules}
 use Rattle.least.proofs.nearest.Goals as goal
 
 pub returns-then-null-low : goal.returns-then-null-low

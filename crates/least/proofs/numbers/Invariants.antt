@@ -1,9 +1,6 @@
 -- `least::numbers` meets its contract: each turn fills one place. Assumes nothing.
 use Prim.Native.Nat.{suc, ◌+◌, ◌-◌, ◌≤◌}
-use native.Mathlib.Omega.{arith}
 use Rattle.least.specs.Steps.{LeftBy}
-use Rattle.least.proofs.Numbering.{left-none, left-more, left_end}
-use borrow.Author.Rules.{rules}
 use Rattle.least.proofs.numbers.Given as goal
 
 abbrev pub invariant-loop-x : goal.invariant-loop-x

@@ -1,12 +1,11 @@
 -- `least::offer` meets its contract: each turn does one place. Assumes nothing.
-use Prim.Native.Nat.{◌-◌, ◌≤◌, max}
+use Prim.Native.Nat.{max}
 use native.Mathlib.Omega.{arith}
 use native.Mathlib.Nat.{le_refl}
-use lib.ListN.{length, get_or}
+use lib.ListN.{get_or}
 use Rattle.sets.proofs.Tests.{at-end}
 use Rattle.least.specs.Putting.{Changed}
 use Rattle.least.proofs.Changing.{changed-none, changed-more}
-use borrow.Author.Rules.{rules}
 use Rattle.least.proofs.offer.Goals as goal
 
 pub loop-x-init : goal.loop-x-init

@@ -1,7 +1,6 @@
 -- `least::offer_unless` meets its contract. Assumes nothing.
 use mathlib.Core.Path.{refl, sym, ◌∙◌}
 use mathlib.Core.Bool.{true≢false}
-use borrow.Author.Rules.{rules}
 use Rattle.least.proofs.offer_unless.Goals as goal
 
 pub returns-then-holds : goal.returns-then-holds

@@ -1,5 +1,4 @@
 -- `least::offers` meets its contract: each turn adds the line of one bidder. Assumes nothing.
-use Prim.Native.Nat.{◌-◌, ◌≤◌}
 use mathlib.Core.Path.{sym, ap, ◌∙◌}
 use native.Mathlib.Omega.{arith}
 use native.Mathlib.Numerals.{add-one}
@@ -9,7 +8,6 @@ use Rattle.sets.proofs.Tests.{at-end}
 use Rattle.least.specs.Falling.{Offered}
 use Rattle.least.proofs.Holders.{table-row, line-long}
 use Rattle.least.proofs.Offering.{offered-none, offered-next}
-use borrow.Author.Rules.{rules}
 use Rattle.least.proofs.offers.Goals as goal
 
 pub loop-b-init : goal.loop-b-init

@@ -1,12 +1,7 @@
 -- `least::put_all` meets its contract: each turn puts in one bidder, if they wait. Assumes nothing.
 use Prim.Native.Nat.{◌-◌, ◌≤◌}
-use mathlib.Core.Path.{sym, ap, ◌∙◌}
-use native.Mathlib.Omega.{arith}
-use native.Mathlib.Numerals.{add-one}
-use Rattle.sets.specs.Bit.{has}
 use Rattle.least.specs.Putting.{Put}
-use Rattle.least.proofs.Joining.{in_at, put-start, put-ready, put_next, put-end}
-use borrow.Author.Rules.{rules}
+use Rattle.least.proofs.Joining.{in_at}
 use Rattle.least.proofs.put_all.Given as goal
 
 abbrev pub invariant-loop-k : goal.invariant-loop-k

@@ -3,7 +3,6 @@ use mathlib.Core.Path.{refl}
 use native.Mathlib.Omega.{arith}
 use Rattle.least.proofs.Seeking.{next_small}
 use Rattle.least.proofs.Putting.{with_bidder, joins-with, level-small, chained, put}
-use borrow.Author.Rules.{rules}
 use Rattle.least.proofs.put_in.Goals as goal
 
 pub search-s-requires : goal.search-s-requires

@@ -7,7 +7,6 @@ use Rattle.sets.proofs.Tests.{at-end}
 use Rattle.bids.specs.Fit.{Small}
 use Rattle.least.specs.Putting.{Changed}
 use Rattle.least.proofs.Changing.{changed-none, changed-more}
-use borrow.Author.Rules.{rules}
 use Rattle.least.proofs.raise.Goals as goal
 
 pub loop-i-init : goal.loop-i-init

@@ -1,13 +1,7 @@
 -- `least::raise` meets its contract: each turn raises one price. Assumes nothing.
 use Prim.Native.Nat.{◌+◌, ◌-◌, ◌≤◌}
-use native.Mathlib.Omega.{arith}
-use native.Mathlib.Nat.{le_refl}
 use lib.ListN.{get_or}
-use Rattle.sets.proofs.Tests.{at-end}
-use Rattle.bids.specs.Fit.{Small}
 use Rattle.least.specs.Putting.{Changed}
-use Rattle.least.proofs.Changing.{changed-none, changed-more}
-use borrow.Author.Rules.{rules}
 use Rattle.least.proofs.raise.Given as goal
 
 abbrev pub invariant-loop-i : goal.invariant-loop-i

@@ -1,9 +1,8 @@
 -- `least::relax` meets its contract: each turn does one place, and keeps the least distance so far. Assumes nothing.
-use Prim.Native.Nat.{ℕ, ◌-◌, ◌≤◌, ◌<◌}
+use Prim.Native.Nat.{ℕ, ◌≤◌, ◌<◌}
 use mathlib.Core.Path.{◌≡◌, subst}
 use native.Mathlib.Omega.{arith}
 use lib.ListN.{length, get_or}
-use borrow.Author.Rules.{rules}
 use Rattle.bids.specs.Fit.{Small}
 use Rattle.least.specs.Steps.{Reached, Lowest}
 use Rattle.least.proofs.Distances.{reached-none, reached-more, lowest-none, lowest-more}

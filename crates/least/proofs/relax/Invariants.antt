@@ -1,12 +1,7 @@
 -- `least::relax` meets its contract: each turn does one place, and keeps the least distance so far. Assumes nothing.
-use Prim.Native.Nat.{ℕ, ◌-◌, ◌≤◌, ◌<◌}
-use mathlib.Core.Path.{◌≡◌, subst}
-use native.Mathlib.Omega.{arith}
-use lib.ListN.{length, get_or}
-use borrow.Author.Rules.{rules}
-use Rattle.bids.specs.Fit.{Small}
+use Prim.Native.Nat.{◌-◌, ◌≤◌}
+use lib.ListN.{length}
 use Rattle.least.specs.Steps.{Reached, Lowest}
-use Rattle.least.proofs.Distances.{reached-none, reached-more, lowest-none, lowest-more}
 use Rattle.least.proofs.relax.Given as goal
 
 abbrev pub invariant-loop-x : goal.invariant-loop-x

@@ -1,11 +1,8 @@
 -- `least::search` meets its contract: each turn enters the nearest item, as long as somebody holds it. Assumes nothing.
-use mathlib.Core.Path.{◌≡◌, sym, ◌∙◌}
+use mathlib.Core.Path.{sym, ◌∙◌}
 use native.Mathlib.Omega.{arith}
-use Rattle.least.specs.Steps.{at_option}
-use Rattle.least.specs.Putting.{left_count, Seeking}
 use Rattle.least.proofs.Distances.{option-amount}
 use Rattle.least.proofs.Seeking.{unsearched-long, first-long, first-lowest, seek-start, next_small, enters, seek-fewer, seek-lowest, seek-next}
-use borrow.Author.Rules.{rules}
 use Rattle.least.proofs.search.Goals as goal
 
 pub overflow_cast-k : goal.overflow_cast-k

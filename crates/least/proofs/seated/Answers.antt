@@ -1,10 +1,8 @@
 -- `least::seated` meets its contract: each turn adds the holder of one item. Assumes nothing.
-use Prim.Native.Nat.{◌-◌, ◌≤◌}
 use native.Mathlib.Omega.{arith}
 use Rattle.sets.proofs.Tests.{at-end}
 use Rattle.least.specs.Falling.{Seated}
 use Rattle.least.proofs.Offering.{seated-none, seated-more}
-use borrow.Author.Rules.{rules}
 use Rattle.least.proofs.seated.Goals as goal
 
 pub loop-x-init : goal.loop-x-init

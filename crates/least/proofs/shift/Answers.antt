@@ -1,8 +1,6 @@
 -- `least::shift` meets its contract: each turn fills an item, and what the taker had is next. Assumes nothing.
 use native.Mathlib.Omega.{arith}
-use Rattle.rule.specs.Sheet.{amount}
-use Rattle.least.specs.Shifting.{steps}
-use Rattle.least.proofs.Walking.{Walked, walked_start, walked-small, walked-less, walked_next, walked_end}
+use Rattle.least.proofs.Walking.{walked_start, walked-small, walked-less, walked_next, walked_end}
 use borrow.Author.Rules.{rules}
 use Rattle.least.proofs.shift.Goals as goal
 

@@ -1,5 +1,4 @@
 -- `least::transpose_line` meets its contract: each turn fills one place. Assumes nothing.
-use Prim.Native.Nat.{◌-◌, ◌≤◌}
 use native.Mathlib.Omega.{arith}
 use Rattle.sets.proofs.Tests.{at-end}
 use Rattle.least.specs.Transposing.{TransposedTo}

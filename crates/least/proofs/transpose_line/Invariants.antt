@@ -1,10 +1,6 @@
 -- `least::transpose_line` meets its contract: each turn fills one place. Assumes nothing.
 use Prim.Native.Nat.{◌-◌, ◌≤◌}
-use native.Mathlib.Omega.{arith}
-use Rattle.sets.proofs.Tests.{at-end}
 use Rattle.least.specs.Transposing.{TransposedTo}
-use Rattle.least.proofs.Tables.{line-fits, bid-fits, transposed-none, transposed-more}
-use borrow.Author.Rules.{rules}
 use Rattle.least.proofs.transpose_line.Given as goal
 
 abbrev pub invariant-loop-b : goal.invariant-loop-b

@@ -1,13 +1,10 @@
 -- `least::transposed` meets its contract: each turn fills one line. Assumes nothing.
-use Prim.Native.Nat.{ℕ, ◌-◌, ◌≤◌}
-use mathlib.Core.Path.{◌≡◌}
+use Prim.Native.Nat.{ℕ}
 use native.Mathlib.Omega.{arith}
-use lib.ListN.{length, length-replicate}
+use lib.ListN.{length-replicate}
 use Rattle.sets.proofs.Tests.{at-end}
-use Rattle.bids.specs.Fit.{Small}
 use Rattle.least.specs.Transposing.{Transposed}
 use Rattle.least.proofs.Tables.{lines_none, lines_more, zeros-small}
-use borrow.Author.Rules.{rules}
 use Rattle.least.proofs.transposed.Goals as goal
 
 pub loop-i-init : goal.loop-i-init

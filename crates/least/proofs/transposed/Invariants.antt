@@ -1,13 +1,9 @@
 -- `least::transposed` meets its contract: each turn fills one line. Assumes nothing.
-use Prim.Native.Nat.{ℕ, ◌-◌, ◌≤◌}
+use Prim.Native.Nat.{◌-◌, ◌≤◌}
 use mathlib.Core.Path.{◌≡◌}
-use native.Mathlib.Omega.{arith}
-use lib.ListN.{length, length-replicate}
-use Rattle.sets.proofs.Tests.{at-end}
+use lib.ListN.{length}
 use Rattle.bids.specs.Fit.{Small}
 use Rattle.least.specs.Transposing.{Transposed}
-use Rattle.least.proofs.Tables.{lines_none, lines_more, zeros-small}
-use borrow.Author.Rules.{rules}
 use Rattle.least.proofs.transposed.Given as goal
 
 abbrev pub invariant-loop-i : goal.invariant-loop-i

@@ -1,14 +1,13 @@
 -- The cycle of calls {place, take}: the chain's two sides. What falls is the number of items not yet entered: the measure is twice that
 -- number, and one more for `take`, since `take` calls `place` with the same items entered. Assumes nothing.
-use Prim.Native.Nat.{ℕ, ◌<◌, ◌+◌, ◌*◌, ◌-◌}
+use Prim.Native.Nat.{ℕ, ◌<◌, ◌+◌, ◌-◌}
 use mathlib.Core.Path.{◌≡◌, ◌∙◌, ap, sym, subst}
 use mathlib.Core.Bool.{Bool, true}
 use mathlib.Core.List.{List}
 use native.Mathlib.Omega.{arith}
 use lib.ListN.{get_or, set}
-use borrow.Author.Rules.{rules}
 use Rattle.sets.proofs.Members.{has-place}
-use Rattle.matching.specs.Chain.{left, Kept, Placed, Taken}
+use Rattle.matching.specs.Chain.{Kept, Placed, Taken}
 use Rattle.matching.proofs.Holdings.{holder-small}
 use Rattle.matching.proofs.Steps.{sub_refl, chosen, chosen_less, won-free, won-may}
 use Rattle.matching.proofs.Outcomes.{taken-now, taken-over, taken_not, placed-none, placed-now, placed_on}

@@ -1,12 +1,7 @@
 -- `matching::all_held` meets its contract: no item passed is one of the items and free. Assumes nothing.
-use mathlib.Core.Path.{◌≡◌, refl, ◌∙◌, sym}
-use mathlib.Core.Bool.{true}
-use Prim.Native.Nat.{ℕ, ◌<◌, ◌≤◌, ◌-◌}
+use mathlib.Core.Path.{refl, ◌∙◌, sym}
 use native.Mathlib.Omega.{arith}
-use lib.ListN.{get_or}
-use borrow.Author.Rules.{rules}
 use borrow.Author.Count.{below_more}
-use Rattle.sets.specs.Bit.{is_set}
 use Rattle.sets.proofs.Members.{has-one-more}
 use Rattle.matching.proofs.Holdings.{no_both}
 use Rattle.matching.proofs.all_held.Goals as goal

@@ -1,15 +1,9 @@
 -- `matching::all_held` meets its contract: no item passed is one of the items and free. Assumes nothing.
-use mathlib.Core.Path.{◌≡◌, refl, ◌∙◌, sym}
+use mathlib.Core.Path.{◌≡◌}
 use mathlib.Core.Bool.{true}
-use mathlib.Core.Logic.{⊎_elim}
 use Prim.Native.Nat.{ℕ, ◌<◌, ◌≤◌, ◌-◌}
-use native.Mathlib.Omega.{arith}
 use lib.ListN.{get_or}
-use borrow.Author.Rules.{rules}
-use borrow.Author.Count.{below_more}
 use Rattle.sets.specs.Bit.{is_set}
-use Rattle.sets.proofs.Members.{has-one-more}
-use Rattle.matching.proofs.Holdings.{no_both}
 use Rattle.matching.proofs.all_held.Given as goal
 
 abbrev pub invariant-loop-k : goal.invariant-loop-k

@@ -5,7 +5,6 @@ use borrow.Author.Tests.{not-true, not-false}
 use Rattle.matching.specs.Chain.{Filled, NoSeats}
 use Rattle.matching.proofs.Holdings.{no_both}
 use Rattle.matching.proofs.Seating.{seated-none, no_items, seated-matching, seated-covering}
-use borrow.Author.Rules.{rules}
 use Rattle.matching.proofs.cover.Goals as goal
 
 pub returns-then-not-all_held : goal.returns-then-not-all_held

@@ -1,6 +1,5 @@
 -- `matching::excess_demand` meets its contract. Assumes nothing.
 use Rattle.matching.proofs.Excess.{settled-largest}
-use borrow.Author.Rules.{rules}
 use Rattle.matching.proofs.excess_demand.Goals as goal
 
 pub returns : goal.returns

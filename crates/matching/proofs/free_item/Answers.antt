@@ -1,9 +1,7 @@
 -- `matching::free_item` meets its contract. Assumes nothing.
 use native.Mathlib.Omega.{arith}
-use Rattle.sets.specs.Bit.{size}
 use Rattle.sets.proofs.Taking.{lowest-of, without-less}
-use Rattle.matching.proofs.Looking.{Looked, look-start, look-next, look-found, look_none}
-use borrow.Author.Rules.{rules}
+use Rattle.matching.proofs.Looking.{look-start, look-next, look-found, look_none}
 use Rattle.matching.proofs.free_item.Goals as goal
 
 pub loop-rest-init : goal.loop-rest-init

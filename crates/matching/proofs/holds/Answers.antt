@@ -1,9 +1,6 @@
 -- `matching::holds` meets its contract: no item passed is the bidder's. Assumes nothing.
-use mathlib.Core.Path.{◌≡◌, refl}
-use Prim.Native.Nat.{ℕ, ◌<◌, ◌≤◌, ◌-◌}
+use mathlib.Core.Path.{refl}
 use native.Mathlib.Omega.{arith}
-use lib.ListN.{get_or}
-use borrow.Author.Rules.{rules}
 use borrow.Author.Count.{below_more}
 use Rattle.matching.proofs.Holdings.{no_both}
 use Rattle.matching.proofs.holds.Goals as goal

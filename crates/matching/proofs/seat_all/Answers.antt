@@ -1,9 +1,8 @@
 -- `matching::seat_all` meets its contract: the bidders passed are placed if they must be, and nothing that was held is free. Assumes nothing.
 use mathlib.Core.Path.{◌≡◌, refl, subst}
 use mathlib.Core.Bool.{true}
-use Prim.Native.Nat.{ℕ, ◌≤◌, ◌+◌, ◌-◌}
+use Prim.Native.Nat.{ℕ, ◌+◌, ◌-◌}
 use native.Mathlib.Omega.{arith}
-use borrow.Author.Rules.{rules}
 use borrow.Author.Tests.{not-true, not-false}
 use Rattle.matching.specs.Chain.{Filled, Seated}
 use Rattle.matching.proofs.Holdings.{no_both}

@@ -1,13 +1,6 @@
 -- `matching::seat_all` meets its contract: the bidders passed are placed if they must be, and nothing that was held is free. Assumes nothing.
-use mathlib.Core.Path.{◌≡◌, refl, subst}
-use mathlib.Core.Bool.{true}
-use Prim.Native.Nat.{ℕ, ◌≤◌, ◌+◌, ◌-◌}
-use native.Mathlib.Omega.{arith}
-use borrow.Author.Rules.{rules}
-use borrow.Author.Tests.{not-true, not-false}
+use Prim.Native.Nat.{◌≤◌, ◌-◌}
 use Rattle.matching.specs.Chain.{Filled, Seated}
-use Rattle.matching.proofs.Holdings.{no_both}
-use Rattle.matching.proofs.Steps.{filled-self}
 use Rattle.matching.proofs.seat_all.Given as goal
 
 abbrev pub invariant-loop-b : goal.invariant-loop-b

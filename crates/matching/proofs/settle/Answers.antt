@@ -7,7 +7,6 @@ use lib.ListN.{set}
 use Rattle.matching.specs.Chain.{Settled}
 use Rattle.matching.proofs.Settling.{settle-won, settle-failed}
 use Rattle.matching.proofs.Looking.{free-item, settle-free}
-use borrow.Author.Rules.{rules}
 use Rattle.matching.proofs.settle.Goals as goal
 
 pub give-requires : goal.give-requires

@@ -1,9 +1,8 @@
 -- `matching::settle_all` meets its contract: the bidders passed are settled. Assumes nothing.
 use mathlib.Core.Path.{◌≡◌, sym, subst}
 use mathlib.Core.List.{List}
-use Prim.Native.Nat.{ℕ, ◌≤◌, ◌+◌, ◌-◌}
+use Prim.Native.Nat.{ℕ, ◌+◌, ◌-◌}
 use native.Mathlib.Omega.{arith}
-use borrow.Author.Rules.{rules}
 use Rattle.matching.specs.Chain.{Settled}
 use Rattle.matching.proofs.Settling.{none-settled}
 use Rattle.matching.proofs.settle_all.Goals as goal

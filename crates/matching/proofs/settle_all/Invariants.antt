@@ -1,11 +1,6 @@
 -- `matching::settle_all` meets its contract: the bidders passed are settled. Assumes nothing.
-use mathlib.Core.Path.{◌≡◌, sym, subst}
-use mathlib.Core.List.{List}
-use Prim.Native.Nat.{ℕ, ◌≤◌, ◌+◌, ◌-◌}
-use native.Mathlib.Omega.{arith}
-use borrow.Author.Rules.{rules}
+use Prim.Native.Nat.{◌≤◌, ◌-◌}
 use Rattle.matching.specs.Chain.{Settled}
-use Rattle.matching.proofs.Settling.{none-settled}
 use Rattle.matching.proofs.settle_all.Given as goal
 
 abbrev pub invariant-loop-b : goal.invariant-loop-b

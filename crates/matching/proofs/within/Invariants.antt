@@ -1,14 +1,9 @@
 -- `matching::within` meets its contract: each set passed is what of the bidder's set lies in the items. Assumes nothing.
-use mathlib.Core.Path.{◌≡◌, ◌∙◌, ap}
+use mathlib.Core.Path.{◌≡◌}
 use mathlib.Core.Bool.{◌&&◌}
 use Prim.Native.Nat.{ℕ, ◌<◌, ◌≤◌, ◌-◌}
-use native.Mathlib.Omega.{arith}
-use lib.ListN.{length, get_or, length-set, length-replicate}
-use lib.Seq.{get_or-set_same, get_or-set_other}
-use borrow.Author.Rules.{rules}
-use borrow.Author.Count.{below_more}
-use Rattle.sets.specs.Bit.{is_set, has}
-use Rattle.sets.proofs.Members.{is_set-set_of}
+use lib.ListN.{length, get_or}
+use Rattle.sets.specs.Bit.{is_set}
 use Rattle.matching.proofs.within.Given as goal
 
 abbrev pub invariant-loop-k : goal.invariant-loop-k

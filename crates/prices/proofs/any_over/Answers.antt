@@ -1,6 +1,5 @@
 -- `prices::any_over` meets its contract. Assumes nothing.
 use Rattle.rule.specs.Refusal.{any_over}
-use borrow.Author.Rules.{rules}
 use Rattle.prices.proofs.any_over.Goals as goal
 
 pub returns : goal.returns

@@ -1,13 +1,9 @@
 -- `prices::any_past` meets its contract. The largest so far is above the limit just where one of those passed is. Assumes nothing.
-use Prim.Native.Nat.{◌-◌, ◌≤◌}
-use mathlib.Core.Path.{◌≡◌}
 use native.Mathlib.Omega.{arith}
-use lib.Dec.{ltb}
 use lib.ListN.{length, get_or}
 use borrow.Author.Tests.{le-ltb}
 use Rattle.sets.specs.Count.{any_below}
 use Rattle.prices.proofs.Amounts.{past_more, past_end}
-use borrow.Author.Rules.{rules}
 use Rattle.prices.proofs.any_past.Goals as goal
 
 pub loop-i-init : goal.loop-i-init

@@ -8,7 +8,6 @@ use lib.ListN.{length, get_or, drop, length-drop}
 use lib.Seq.{take_all}
 use Rattle.sets.specs.Count.{any_below}
 use Rattle.prices.proofs.Amounts.{under_first, under_rest}
-use borrow.Author.Rules.{rules}
 use Rattle.prices.proofs.any_under.Goals as goal
 
 pub first_under-requires : goal.first_under-requires

@@ -1,12 +1,10 @@
 -- `prices::first_under` meets its contract. The furthest so far that a floor is above its price is above 0 just where one of those passed is. Assumes nothing.
-use Prim.Native.Nat.{◌-◌, ◌≤◌, max}
-use mathlib.Core.Path.{◌≡◌, refl, ap, ◌∙◌}
+use Prim.Native.Nat.{◌-◌, max}
+use mathlib.Core.Path.{refl, ap, ◌∙◌}
 use native.Mathlib.Omega.{arith}
-use lib.Dec.{ltb}
 use lib.ListN.{get_or}
 use Rattle.sets.specs.Count.{any_below}
 use Rattle.prices.proofs.Amounts.{past_more, past_end}
-use borrow.Author.Rules.{rules}
 use Rattle.prices.proofs.first_under.Goals as goal
 
 pub loop-i-init : goal.loop-i-init

@@ -1,12 +1,9 @@
 -- `prices::first_under` meets its contract. The furthest so far that a floor is above its price is above 0 just where one of those passed is. Assumes nothing.
-use Prim.Native.Nat.{◌-◌, ◌≤◌, max}
-use mathlib.Core.Path.{◌≡◌, refl, ap, ◌∙◌}
-use native.Mathlib.Omega.{arith}
+use Prim.Native.Nat.{◌-◌, ◌≤◌}
+use mathlib.Core.Path.{◌≡◌}
 use lib.Dec.{ltb}
 use lib.ListN.{get_or}
 use Rattle.sets.specs.Count.{any_below}
-use Rattle.prices.proofs.Amounts.{past_more, past_end}
-use borrow.Author.Rules.{rules}
 use Rattle.prices.proofs.first_under.Given as goal
 
 abbrev pub invariant-loop-i : goal.invariant-loop-i

@@ -1,5 +1,5 @@
 -- `prices::in_places` meets its contract. Each turn fills one place, to the last amount or the last place. Assumes nothing.
-use Prim.Native.Nat.{ℕ, ◌-◌, ◌≤◌, ◌<◌, min}
+use Prim.Native.Nat.{ℕ, ◌≤◌, ◌<◌, min}
 use mathlib.Core.Path.{◌≡◌, refl}
 use mathlib.Core.List.{List}
 use mathlib.Core.Logic.{◌⊎◌, inl, inr}
@@ -8,7 +8,6 @@ use lib.ListN.{length, get_or}
 use Rattle.sets.proofs.Counting.{lt-or-le}
 use Rattle.sets.proofs.Filling.{Filled, fill_start, fill-next, fill_end, fill-places}
 use Rattle.sets.specs.Lists.{places}
-use borrow.Author.Rules.{rules}
 use Rattle.prices.proofs.in_places.Goals as goal
 
 -- there are no more amounts, or no more places

@@ -1,13 +1,11 @@
 -- `prices::lowered` meets its contract. Each turn fills one place. Assumes nothing.
-use Prim.Native.Nat.{◌+◌, ◌-◌}
+use Prim.Native.Nat.{◌-◌}
 use mathlib.Core.Path.{ap, ◌∙◌}
 use mathlib.Core.Bool.{Bool}
 use lib.ListN.{get_or}
-use Rattle.sets.specs.Bit.{has}
 use Rattle.sets.specs.Count.{to_nat}
-use Rattle.sets.proofs.Filling.{Filled, fill_start, fill-next, fill_end}
+use Rattle.sets.proofs.Filling.{fill_start, fill-next, fill_end}
 use Rattle.prices.proofs.Moving.{lowered_is}
-use borrow.Author.Rules.{rules}
 use Rattle.prices.proofs.lowered.Goals as goal
 
 pub loop-i-init : goal.loop-i-init

@@ -1,13 +1,11 @@
 -- `prices::raised` meets its contract. Each turn fills one place. Assumes nothing.
-use Prim.Native.Nat.{◌+◌, ◌-◌, min}
+use Prim.Native.Nat.{◌+◌, min}
 use mathlib.Core.Path.{ap, ◌∙◌}
 use mathlib.Core.Bool.{Bool}
 use lib.ListN.{get_or}
-use Rattle.sets.specs.Bit.{has}
 use Rattle.sets.specs.Count.{to_nat}
-use Rattle.sets.proofs.Filling.{Filled, fill_start, fill-next, fill_end}
+use Rattle.sets.proofs.Filling.{fill_start, fill-next, fill_end}
 use Rattle.prices.proofs.Moving.{raised_is}
-use borrow.Author.Rules.{rules}
 use Rattle.prices.proofs.raised.Goals as goal
 
 pub loop-i-init : goal.loop-i-init

@@ -3,7 +3,6 @@ use mathlib.Core.Path.{ap}
 use native.Mathlib.Omega.{arith}
 use Rattle.sets.specs.Count.{to_nat}
 use borrow.Author.Tests.{not-true, not-false}
-use borrow.Author.Rules.{rules}
 use Rattle.prices.proofs.up.Goals as goal
 
 pub returns-then-not-on : goal.returns-then-not-on

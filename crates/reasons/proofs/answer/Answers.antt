@@ -11,7 +11,6 @@ use Rattle.sheet.proofs.Reading.{InOrder, contents-number, in_order}
 use Rattle.reasons.specs.Sheets.{reason_sheet, reasons_in, answer_of}
 use Rattle.reasons.proofs.Fitting.{Written}
 use Rattle.reasons.proofs.Answers.{by-sheet, by-line}
-use borrow.Author.Rules.{rules}
 use Rattle.reasons.proofs.answer.Goals as goal
 
 -- what is written is the answer

@@ -6,7 +6,6 @@ use lib.Dec.{eqb}
 use Rattle.rule.specs.Demand.{Demand}
 use Rattle.reasons.specs.Steps.{counts_for}
 use Rattle.reasons.proofs.Tests.{in-test, null-test, out-test}
-use borrow.Author.Rules.{rules}
 use Rattle.reasons.proofs.counts.Goals as goal
 
 -- by the test that was made

@@ -2,7 +2,6 @@
 use mathlib.Core.Path.{sym, ap, ◌∙◌}
 use mathlib.Core.Bool.{Bool}
 use Rattle.reasons.specs.Steps.{prices_after}
-use borrow.Author.Rules.{rules}
 use Rattle.reasons.proofs.moved.Goals as goal
 
 pub returns-then-falls : goal.returns-then-falls

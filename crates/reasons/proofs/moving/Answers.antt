@@ -3,7 +3,6 @@ use mathlib.Core.Path.{sym, ap, ◌∙◌}
 use mathlib.Core.Bool.{Bool}
 use Rattle.round.specs.Reports.{reports}
 use Rattle.reasons.specs.Steps.{moving_set}
-use borrow.Author.Rules.{rules}
 use Rattle.reasons.proofs.moving.Goals as goal
 
 pub returns-then-falls : goal.returns-then-falls

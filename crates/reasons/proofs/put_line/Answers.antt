@@ -5,7 +5,6 @@ use native.Mathlib.Omega.{arith}
 use lib.ListN.{length, length-set}
 use Rattle.digits.proofs.Room.{written}
 use Rattle.reasons.proofs.Lines.{line-put}
-use borrow.Author.Rules.{rules}
 use Rattle.reasons.proofs.put_line.Goals as goal
 
 pub shape_of-out : goal.shape_of-out

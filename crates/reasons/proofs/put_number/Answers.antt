@@ -1,12 +1,9 @@
 -- `reasons::put_number` meets its contract. Assumes nothing.
-use Prim.Native.Nat.{◌≤◌, ◌<◌}
-use mathlib.Core.Path.{sym, ◌∙◌}
+use mathlib.Core.Path.{sym}
 use native.Mathlib.Omega.{arith}
-use lib.ListN.{length}
 use Rattle.lines.specs.Lines.{number_line}
 use Rattle.lines.proofs.Numbered.{number-long, refusal-put}
 use Rattle.reasons.proofs.Fitting.{not_written, is-written}
-use borrow.Author.Rules.{rules}
 use Rattle.reasons.proofs.put_number.Goals as goal
 
 pub returns-then-out-lt3 : goal.returns-then-out-lt3

@@ -1,10 +1,9 @@
 -- `reasons::put_sheet` meets its contract. Assumes nothing.
-use Prim.Native.Nat.{ℕ, ◌+◌, ◌*◌, ◌≤◌, ◌<◌}
-use mathlib.Core.Path.{◌≡◌, sym, ap, ap₂, ◌∙◌}
+use Prim.Native.Nat.{ℕ, ◌+◌, ◌*◌}
+use mathlib.Core.Path.{◌≡◌, sym, ap, ◌∙◌}
 use mathlib.Core.List.{List}
 use native.Mathlib.Omega.{arith}
 use lib.ListN.{length}
-use Rattle.rule.specs.Sheet.{Sheet}
 use Rattle.rule.specs.Round.{close}
 use Rattle.rule.specs.Reasons.{round_count}
 use Rattle.bids.specs.Lent.{sheet_of}
@@ -15,7 +14,6 @@ use Rattle.auction.proofs.Sealing.{sealed-closed}
 use Rattle.reasons.specs.Sheets.{reason_sheet}
 use Rattle.reasons.proofs.Lines.{sheet-long}
 use Rattle.reasons.proofs.Fitting.{not_written, is-written}
-use borrow.Author.Rules.{rules}
 use Rattle.reasons.proofs.put_sheet.Goals as goal
 
 -- the rounds that the sealed auction says

@@ -1,7 +1,6 @@
 -- `reasons::reason_at` meets its contract. Assumes nothing.
 use lib.ListN.{replicate}
 use Rattle.reasons.proofs.Reasoning.{reason-is}
-use borrow.Author.Rules.{rules}
 use Rattle.reasons.proofs.reason_at.Goals as goal
 
 pub returns : goal.returns

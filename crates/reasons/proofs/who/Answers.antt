@@ -1,5 +1,5 @@
 -- `reasons::who` meets its contract. Each turn looks at one bidder. Assumes nothing.
-use Prim.Native.Nat.{ℕ, ◌-◌, ◌+◌, ◌≤◌, ◌<◌}
+use Prim.Native.Nat.{ℕ, ◌-◌, ◌+◌, ◌<◌}
 use mathlib.Core.Path.{◌≡◌, refl, sym, ap, ◌∙◌}
 use mathlib.Core.Bool.{Bool}
 use mathlib.Core.List.{List}
@@ -7,13 +7,12 @@ use native.Mathlib.Omega.{arith}
 use native.Mathlib.Numerals.{add-one}
 use lib.ListN.{get_or}
 use Rattle.sets.specs.Bit.{has, set_of}
-use Rattle.rule.specs.Demand.{Demand, nth}
+use Rattle.rule.specs.Demand.{nth}
 use Rattle.rule.specs.Reasons.{bidders_with}
 use Rattle.round.specs.Reports.{reports}
 use Rattle.round.proofs.Adding.{add-next, add-end}
 use Rattle.round.proofs.Reporting.{reports-length, report}
 use Rattle.reasons.specs.Steps.{counts_for}
-use borrow.Author.Rules.{rules}
 use Rattle.reasons.proofs.who.Invariants.{at}
 use Rattle.reasons.proofs.who.Goals as goal
 

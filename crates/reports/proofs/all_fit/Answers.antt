@@ -1,13 +1,9 @@
 -- `reports::all_fit` meets its contract. The places passed so far hold what they may. Assumes nothing.
-use mathlib.Core.Path.{◌≡◌, sym, ◌∙◌}
-use mathlib.Core.Bool.{true}
-use Prim.Native.Nat.{ℕ, ◌-◌, ◌≤◌, ◌<◌}
+use mathlib.Core.Path.{sym, ◌∙◌}
 use native.Mathlib.Omega.{arith}
-use lib.ListN.{length}
 use borrow.Author.Count.{below_none, below_more}
-use borrow.Author.Rules.{rules}
 use borrow.Author.Tests.{not-true, not-false}
-use Rattle.reports.proofs.Fitting.{fits_at, found, all-fit-make, one-unfit}
+use Rattle.reports.proofs.Fitting.{found, all-fit-make, one-unfit}
 use Rattle.reports.proofs.all_fit.Goals as goal
 
 pub loop-k-init : goal.loop-k-init

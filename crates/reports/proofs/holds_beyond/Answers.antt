@@ -1,5 +1,4 @@
 -- `reports::holds_beyond` meets its contract. Assumes nothing.
-use borrow.Author.Rules.{rules}
 use Rattle.reports.proofs.Laws.{beyond-any}
 use Rattle.reports.proofs.holds_beyond.Goals as goal
 

@@ -1,5 +1,4 @@
 -- `reports::place_fits` meets its contract. Assumes nothing.
-use borrow.Author.Rules.{rules}
 use borrow.Author.Tests.{not-true, not-false, lt-leb, le-leb}
 use Rattle.reports.specs.Places.{place_fits}
 use Rattle.reports.proofs.place_fits.Goals as goal

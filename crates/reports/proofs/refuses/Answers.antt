@@ -1,7 +1,6 @@
 -- `reports::refuses` meets its contract. Assumes nothing.
 use mathlib.Core.Path.{◌≡◌, sym, ◌∙◌}
 use mathlib.Core.Bool.{true, false}
-use borrow.Author.Rules.{rules}
 use Rattle.reports.specs.Report.{saying, is_empty, beyond, unfit}
 use Rattle.reports.proofs.refuses.Goals as goal
 

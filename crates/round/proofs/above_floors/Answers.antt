@@ -1,5 +1,5 @@
 -- `round::above_floors` meets its contract. Each turn adds one item, if its price is above the floor. Assumes nothing.
-use Prim.Native.Nat.{ℕ, ◌+◌, ◌-◌, ◌≤◌}
+use Prim.Native.Nat.{ℕ, ◌+◌}
 use mathlib.Core.Path.{◌≡◌, refl, sym, ap, ap₂}
 use mathlib.Core.List.{List}
 use native.Mathlib.Omega.{arith}
@@ -10,7 +10,6 @@ use Rattle.sets.specs.Bit.{set_of}
 use Rattle.rule.specs.Sheet.{amount}
 use Rattle.rule.specs.Excess.{above_floors}
 use Rattle.round.proofs.Adding.{add-next, add-end}
-use borrow.Author.Rules.{rules}
 use Rattle.round.proofs.above_floors.Goals as goal
 
 -- item k + 1 has the price at place k

@@ -1,16 +1,9 @@
 -- `round::above_floors` meets its contract. Each turn adds one item, if its price is above the floor. Assumes nothing.
-use Prim.Native.Nat.{ℕ, ◌+◌, ◌-◌, ◌≤◌}
-use mathlib.Core.Path.{◌≡◌, refl, sym, ap, ap₂}
-use mathlib.Core.List.{List}
-use native.Mathlib.Omega.{arith}
-use native.Mathlib.Numerals.{add-one}
+use Prim.Native.Nat.{◌-◌, ◌≤◌}
+use mathlib.Core.Path.{◌≡◌}
 use lib.Dec.{ltb}
-use lib.ListN.{get_or}
 use Rattle.sets.specs.Bit.{set_of}
 use Rattle.rule.specs.Sheet.{amount}
-use Rattle.rule.specs.Excess.{above_floors}
-use Rattle.round.proofs.Adding.{add-next, add-end}
-use borrow.Author.Rules.{rules}
 use Rattle.round.proofs.above_floors.Given as goal
 
 abbrev pub invariant-loop-i : goal.invariant-loop-i

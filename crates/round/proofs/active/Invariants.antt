@@ -1,11 +1,9 @@
 -- `round::active` meets its contract. Each turn fills one place. Assumes nothing.
 use Prim.Native.Nat.{◌+◌, ◌-◌}
-use mathlib.Core.Path.{ap, ◌∙◌}
-use mathlib.Core.Bool.{Bool, cond}
+use mathlib.Core.Bool.{cond}
 use lib.ListN.{get_or}
 use Rattle.sets.specs.Bit.{has}
-use Rattle.sets.proofs.Filling.{Filled, fill_start, fill-next, fill_end}
-use borrow.Author.Rules.{rules}
+use Rattle.sets.proofs.Filling.{Filled}
 use Rattle.round.proofs.active.Given as goal
 
 abbrev pub invariant-loop-b : goal.invariant-loop-b

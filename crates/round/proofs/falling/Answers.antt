@@ -1,5 +1,4 @@
 -- `round::falling` meets its contract. What it hands to the matching is what the rule asks of the reports. Assumes nothing.
-use borrow.Author.Rules.{rules}
 use Rattle.round.proofs.Reporting.{falling-found}
 use Rattle.round.proofs.falling.Goals as goal
 

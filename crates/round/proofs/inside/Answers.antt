@@ -1,10 +1,5 @@
 -- `round::inside` meets its contract. Each turn fills one place. Assumes nothing.
-use Prim.Native.Nat.{◌-◌}
-use mathlib.Core.Bool.{◌&&◌}
-use lib.ListN.{get_or}
-use Rattle.sets.specs.Bit.{has, set_of}
-use Rattle.sets.proofs.Filling.{Filled, fill_start, fill-next, fill_end}
-use borrow.Author.Rules.{rules}
+use Rattle.sets.proofs.Filling.{fill_start, fill-next, fill_end}
 use Rattle.round.proofs.inside.Goals as goal
 
 pub loop-b-init : goal.loop-b-init

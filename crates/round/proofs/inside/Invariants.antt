@@ -3,8 +3,7 @@ use Prim.Native.Nat.{◌-◌}
 use mathlib.Core.Bool.{◌&&◌}
 use lib.ListN.{get_or}
 use Rattle.sets.specs.Bit.{has, set_of}
-use Rattle.sets.proofs.Filling.{Filled, fill_start, fill-next, fill_end}
-use borrow.Author.Rules.{rules}
+use Rattle.sets.proofs.Filling.{Filled}
 use Rattle.round.proofs.inside.Given as goal
 
 abbrev pub invariant-loop-b : goal.invariant-loop-b

@@ -1,5 +1,4 @@
 -- `round::rising` meets its contract. What it hands to the matching is what the rule asks of the reports. Assumes nothing.
-use borrow.Author.Rules.{rules}
 use Rattle.round.proofs.Reporting.{rising-found}
 use Rattle.round.proofs.rising.Goals as goal
 

@@ -1,5 +1,4 @@
 -- `sets::first_items` meets its contract. Assumes nothing.
-use borrow.Author.Rules.{rules}
 use Rattle.sets.proofs.Words.{word-one, word_first, word-all}
 use Rattle.sets.proofs.first_items.Goals as goal
 

@@ -1,5 +1,4 @@
 -- `sets::has_item` meets its contract. Assumes nothing.
-use borrow.Author.Rules.{rules}
 use mathlib.Core.Path.{sym, ap, ◌∙◌}
 use Rattle.sets.specs.Bit.{has}
 use Rattle.sets.proofs.Members.{has-zero, has-past}

@@ -1,5 +1,4 @@
 -- `sets::only_item` meets its contract. Assumes nothing.
-use borrow.Author.Rules.{rules}
 use native.Mathlib.Omega.{arith}
 use Rattle.sets.proofs.Words.{word-only, word-nobody}
 use Rattle.sets.proofs.only_item.Goals as goal

@@ -1,5 +1,4 @@
 -- `sets::with_bidder` meets its contract. Assumes nothing.
-use borrow.Author.Rules.{rules}
 use Rattle.sets.proofs.Words.{word-with}
 use Rattle.sets.proofs.with_bidder.Goals as goal
 

@@ -1,5 +1,4 @@
 -- `sets::with_item` meets its contract. Assumes nothing.
-use borrow.Author.Rules.{rules}
 use Rattle.sets.proofs.Words.{word-with}
 use Rattle.sets.proofs.with_item.Goals as goal
 

@@ -1,5 +1,4 @@
 -- `sets::without_bidder` meets its contract. Assumes nothing.
-use borrow.Author.Rules.{rules}
 use Rattle.sets.proofs.Words.{word-without}
 use Rattle.sets.proofs.without_bidder.Goals as goal
 

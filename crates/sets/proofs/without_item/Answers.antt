@@ -1,5 +1,4 @@
 -- `sets::without_item` meets its contract. Assumes nothing.
-use borrow.Author.Rules.{rules}
 use Rattle.sets.proofs.Words.{word-without}
 use Rattle.sets.proofs.without_item.Goals as goal
 

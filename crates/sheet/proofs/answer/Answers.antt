@@ -2,7 +2,6 @@
 use Prim.Native.Nat.{◌≤◌}
 use mathlib.Core.Path.{sym, ap}
 use lib.ListN.{length}
-use borrow.Author.Rules.{rules}
 use Rattle.sheet.proofs.Answers.{closing_long, closing-lent, line-long, line-lent, no_answer, nothing_lent}
 use Rattle.sheet.proofs.answer.Goals as goal
 

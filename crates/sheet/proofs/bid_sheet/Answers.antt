@@ -1,7 +1,6 @@
 -- `sheet::bid_sheet` meets its contract. Assumes nothing.
 use mathlib.Core.Path.{sym, ◌∙◌}
 use native.Mathlib.Omega.{arith}
-use borrow.Author.Rules.{rules}
 use Rattle.sheet.specs.Close.{bid_sheet_of}
 use Rattle.sheet.specs.Contents.{contents_of}
 use Rattle.sheet.proofs.Reading.{Parts, parts, by-amounts, by-zeros, handed-refused, handed-whole}

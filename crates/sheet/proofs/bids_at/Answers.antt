@@ -8,7 +8,6 @@ use native.Mathlib.Nat.{zero-mul}
 use lib.Dec.{eqb}
 use lib.ListN.{length, take}
 use borrow.Rule.Slice.PartMut.{same_len_mid}
-use borrow.Author.Rules.{rules}
 use Rattle.lines.specs.Reading.{line_at}
 use Rattle.sheet.specs.BidSheet.{bids_at}
 use Rattle.sheet.specs.Steps.{read_as}

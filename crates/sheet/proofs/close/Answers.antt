@@ -3,7 +3,6 @@ use mathlib.Core.Path.{◌≡◌, sym, ap, ◌∙◌, subst}
 use mathlib.Core.List.{[]}
 use native.Mathlib.Omega.{arith}
 use lib.ListN.{length}
-use borrow.Author.Rules.{rules}
 use Rattle.rule.specs.Refusal.{first, bad_items, bad_bidders}
 use Rattle.sheet.specs.BidSheet.{BidSheet}
 use Rattle.sheet.specs.Close.{unreadable, sheet_refusal}

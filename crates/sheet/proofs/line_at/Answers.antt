@@ -1,5 +1,5 @@
 -- `sheet::line_at` meets its contract: the numbers read stand ahead of those left to read. Assumes nothing.
-use Prim.Native.Nat.{ℕ, ◌+◌, ◌*◌, ◌-◌, ◌≤◌}
+use Prim.Native.Nat.{ℕ, ◌+◌, ◌*◌, ◌-◌}
 use mathlib.Core.Path.{◌≡◌, sym, ap, ◌∙◌}
 use mathlib.Core.List.{List, [], ◌∷◌, ◌++◌}
 use mathlib.Core.Option.{Option, none, some}
@@ -7,7 +7,6 @@ use native.Mathlib.Omega.{arith}
 use native.Mathlib.Numerals.{add-one}
 use lib.ListN.{length, set, take, length-set}
 use lib.Seq.{take_all, take-suc-set}
-use borrow.Author.Rules.{rules}
 use Rattle.digits.specs.Reading.{number_at}
 use Rattle.lines.specs.Reading.{numbers_at}
 use Rattle.digits.proofs.Digits.{hex-length}

@@ -4,7 +4,6 @@ use mathlib.Core.Path.{◌≡◌, sym, ◌∙◌}
 use mathlib.Core.Bool.{false}
 use mathlib.Core.Option.{none, some}
 use native.Mathlib.Omega.{arith}
-use borrow.Author.Rules.{rules}
 use Rattle.rule.specs.Refusal.{bad_items, bad_bidders}
 use Rattle.digits.proofs.Walking.{was-number, was-nothing}
 use Rattle.sheet.specs.BidSheet.{items_in, bidders_in}

@@ -5,7 +5,6 @@ use mathlib.Core.Option.{none, some}
 use native.Mathlib.Omega.{arith}
 use lib.ListN.{length, take, replicate, length-replicate}
 use lib.Seq.{length-take-le, take_all}
-use borrow.Author.Rules.{rules}
 use Rattle.lines.specs.Reading.{line_at}
 use Rattle.sheet.specs.BidSheet.{bids_at}
 use Rattle.sheet.specs.Close.{bid_sheet_of}

@@ -2,7 +2,6 @@
 use mathlib.Core.Path.{sym, ◌∙◌}
 use borrow.Author.Tests.{not-true, not-false}
 use Rattle.dewgneiss.proofs.Asking.{fill-not, fill_done}
-use borrow.Author.Rules.{rules}
 use Rattle.dewgneiss.proofs.tables.dewgneiss_table_fill.Goals as goal
 
 pub returns-then-not-is_lent : goal.returns-then-not-is_lent

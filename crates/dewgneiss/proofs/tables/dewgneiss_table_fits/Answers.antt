@@ -2,7 +2,6 @@
 use mathlib.Core.Path.{sym, ◌∙◌}
 use Rattle.rule.specs.Refusal.{bad_items}
 use Rattle.dewgneiss.specs.Tables.{fits_answer}
-use borrow.Author.Rules.{rules}
 use Rattle.dewgneiss.proofs.tables.dewgneiss_table_fits.Goals as goal
 
 pub returns-then-outside : goal.returns-then-outside

@@ -7,7 +7,6 @@ use Rattle.sets.specs.Count.{to_nat}
 use Rattle.differences.specs.Lent.{part_explains, part_narrowed}
 use Rattle.dewgneiss.specs.Tables.{said_by}
 use Rattle.dewgneiss.proofs.Asking.{explains-not, explains-asked, narrow-not, narrow-asked}
-use borrow.Author.Rules.{rules}
 use Rattle.dewgneiss.proofs.tables.dewgneiss_table_narrow.Goals as goal
 
 pub returns-then-not-is_call : goal.returns-then-not-is_call

@@ -3,7 +3,6 @@ use mathlib.Core.Path.{sym, ◌∙◌}
 use borrow.Author.Tests.{eq-eqb, ne_eqb}
 use Rattle.rule.specs.Refusal.{bad_items, bad_length}
 use Rattle.dewgneiss.specs.Tables.{is_call}
-use borrow.Author.Rules.{rules}
 use Rattle.dewgneiss.proofs.tables.is_call.Goals as goal
 
 pub returns-then-outside : goal.returns-then-outside

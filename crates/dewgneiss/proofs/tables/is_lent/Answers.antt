@@ -2,7 +2,6 @@
 use mathlib.Core.Path.{sym, ◌∙◌}
 use Rattle.rule.specs.Refusal.{bad_items}
 use Rattle.dewgneiss.specs.Tables.{is_lent}
-use borrow.Author.Rules.{rules}
 use Rattle.dewgneiss.proofs.tables.is_lent.Goals as goal
 
 pub returns-then-outside : goal.returns-then-outside

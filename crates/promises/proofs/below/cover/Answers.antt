@@ -1,5 +1,4 @@
 -- `promises::below::cover` meets its contract. Assumes nothing.
-use borrow.Author.Rules.{rules}
 use Rattle.promises.proofs.Calls.{match-or-none}
 use Rattle.promises.proofs.below.cover.Goals as goal
 

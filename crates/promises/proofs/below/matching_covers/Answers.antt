@@ -1,5 +1,4 @@
 -- `promises::below::matching_covers` meets its contract. Assumes nothing.
-use borrow.Author.Rules.{rules}
 use Rattle.promises.proofs.Calls.{match-or-none}
 use Rattle.promises.proofs.below.matching_covers.Goals as goal
 

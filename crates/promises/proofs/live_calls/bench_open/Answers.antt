@@ -1,5 +1,4 @@
 -- `promises::live_calls::bench_open` meets its contract. Assumes nothing.
-use borrow.Author.Rules.{rules}
 use Rattle.promises.proofs.Calls.{in-lists}
 use Rattle.promises.proofs.live_calls.bench_open.Goals as goal
 

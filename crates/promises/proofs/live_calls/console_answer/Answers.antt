@@ -1,5 +1,4 @@
 -- `promises::live_calls::console_answer` meets its contract. Assumes nothing.
-use borrow.Author.Rules.{rules}
 use Rattle.promises.proofs.live_calls.console_answer.Goals as goal
 
 pub returns : goal.returns

@@ -1,5 +1,4 @@
 -- `promises::sealed::close_and_turn` meets its contract. Assumes nothing.
-use borrow.Author.Rules.{rules}
 use Rattle.promises.proofs.Calls.{least}
 use Rattle.promises.proofs.sealed.close_and_turn.Goals as goal
 

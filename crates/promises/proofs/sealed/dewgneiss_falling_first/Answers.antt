@@ -1,5 +1,4 @@
 -- `promises::sealed::dewgneiss_falling_first` meets its contract. Assumes nothing.
-use borrow.Author.Rules.{rules}
 use Rattle.promises.proofs.Calls.{leaves-falling}
 use Rattle.promises.proofs.sealed.dewgneiss_falling_first.Goals as goal
 

@@ -1,5 +1,4 @@
 -- `promises::sealed::dewgneiss_sealed` meets its contract. Assumes nothing.
-use borrow.Author.Rules.{rules}
 use Rattle.promises.proofs.Calls.{leaves-sealed}
 use Rattle.promises.proofs.sealed.dewgneiss_sealed.Goals as goal
 

@@ -1,5 +1,4 @@
 -- `promises::sealed::dewgneiss_sealed_above` meets its contract. Assumes nothing.
-use borrow.Author.Rules.{rules}
 use Rattle.promises.proofs.Calls.{leaves-above}
 use Rattle.promises.proofs.sealed.dewgneiss_sealed_above.Goals as goal
 

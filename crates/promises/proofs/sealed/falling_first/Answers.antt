@@ -1,6 +1,5 @@
 -- `promises::sealed::falling_first` meets its contract. Assumes nothing.
 use mathlib.Core.Path.{ap, ◌∙◌}
-use borrow.Author.Rules.{rules}
 use Rattle.auction.specs.declared.Closing.{Closing}
 use Rattle.promises.proofs.Calls.{stands-falling, rising-too}
 use Rattle.promises.proofs.sealed.falling_first.Goals as goal

@@ -1,5 +1,4 @@
 -- `promises::sealed::sealed_above` meets its contract. Assumes nothing.
-use borrow.Author.Rules.{rules}
 use Rattle.promises.proofs.Calls.{stands}
 use Rattle.promises.proofs.sealed.sealed_above.Goals as goal
 
