@@ -13,7 +13,6 @@ use Rattle.differences.specs.Table.{opening}
 use Rattle.differences.specs.Lent.{flat_all}
 use Rattle.live.specs.Tables.{open_tables}
 use Rattle.live.specs.declared.Auction.{Auction}
-use Rattle.live.proofs.Opening as opens
 use Rattle.agreement.specs.Calls.{reporting, ending, Ran, run}
 use Rattle.agreement.specs.Agreement.{opened_with}
 use Rattle.agreement.proofs.Examples as examples
@@ -43,12 +42,12 @@ reports : Reports
 unfolding opened_with open_tables
 reports =
     record {
-      sixteen_nineteen = λ lent l. examples.first-report-answers lent (opens.tables-exact 2 lent l);
-      sixteen_anew = λ lent l.
+      sixteen_nineteen = λ lent fit. examples.first-report-answers lent fit;
+      sixteen_anew = λ lent fit.
           ap (λ (r : Auction). (run (record { auction = r; tables = flat_all 2 λ k. opening 1 }) (reporting 1 (saying false 1) ∷ reporting 2 (saying false 1) ∷ ending ∷ [])).answers)
-          (examples.first-report-record lent (opens.tables-exact 2 lent l))
+          (examples.first-report-record lent fit)
           ∙ ap (λ (r : Ran). r.answers) examples.sixteen_anew;
-      seventeen_nineteen = λ lent l. examples.seventeen-answers lent (opens.tables-exact 2 lent l);
+      seventeen_nineteen = λ lent fit. examples.seventeen-answers lent fit;
     }
 
 pub cases : Cases

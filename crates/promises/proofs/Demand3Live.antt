@@ -16,7 +16,6 @@ use Rattle.sheet.specs.Close.{sheet_refusal, by_number, closed_to}
 use Rattle.sheet.specs.Accepted.{sheet_in}
 use Rattle.live.specs.declared.Auction.{Auction}
 use Rattle.live.specs.Calls.{open_auction, open_above, gives, refused, open_above_number}
-use Rattle.live.proofs.Opening as opens
 use Rattle.agreement.specs.Calls.{Call, Answer, told, ended, shown, Held, call, run}
 use Rattle.agreement.specs.Machine.{Machine, at, three_lines}
 use Rattle.agreement.specs.Agreement as claim
@@ -41,9 +40,12 @@ pub other : (n x : ℕ) (b : Bool) → not (eqb x n) && b ≡ true → x ≡ n �
 other n x b e q = not-both (eqb x n) (eq-eqb x n q) (not_is (eqb x n) (and_left (not (eqb x n)) b e))
 
 pub without : (n : ℕ) (xs : List Answer) → never n xs ≡ true → Without n xs
-unfolding Without never
+unfolding Without never number_of
 without n [] e = tt
-without n (a ∷ rest) e = (other n (number_of a) (never n rest) e, without n rest (and_right (not (eqb (number_of a) n)) (never n rest) e))
+without n (told x ∷ rest) e = (other n x (never n rest) e, without n rest (and_right (not (eqb x n)) (never n rest) e))
+without n (ended (gives r) ∷ rest) e = without n rest (and_right (not (eqb 0 n)) (never n rest) e)
+without n (ended (refused x) ∷ rest) e = (other n x (never n rest) e, without n rest (and_right (not (eqb x n)) (never n rest) e))
+without n (shown x out ∷ rest) e = (other n x (never n rest) e, without n rest (and_right (not (eqb x n)) (never n rest) e))
 
 pub closes_as : (s : Sheet) (r : Auction) → claim.ClosedAs s r → ClosesAs s r
 unfolding three_lines
@@ -77,7 +79,7 @@ agrees s lent calls theirs t g =
       closes_when = g.closes_when;
       no_eleven = without 11 theirs g.no_eleven;
       well-formed = g.well-formed;
-      tables_long = opens.tables_long (length s.bids) (live_run s lent calls).last.tables g.tables_long;
+      tables_long = g.tables_long;
       tables-fit = g.tables-fit;
     }
 
@@ -112,7 +114,7 @@ unfolding open_auction open_above opened_with
 demand3_live =
     record {
       listed = listed;
-      agreement = λ s e few lent l calls theirs t q. agrees s lent calls theirs t (agreeing.agreement s e few lent (opens.tables-exact (length s.bids) lent l) calls theirs t q);
+      agreement = λ s e few lent fit calls theirs t q. agrees s lent calls theirs t (agreeing.agreement s e few lent fit calls theirs t q);
       fit_opened = λ m n start lent e. fit _ (always.open-sound m n start lent (opened-is _ m n start (replicate m 0) ∙ e));
       fit_opened_above = λ m n start floors lent e. fit _ (always.above-sound m n start floors lent (opened-is _ m n start floors ∙ e));
       fit_called = λ h f c. fit _ (always.keeps h (sound h f) c);

@@ -15,6 +15,7 @@ use Rattle.differences.specs.Lent.{flat_all}
 use Rattle.bids.specs.Refusal.{sealed_refusal}
 use Rattle.sheet.specs.Close.{answer_of}
 use Rattle.reasons.specs.Sheets.{reasons_in}
+use Rattle.live.specs.Tables.{bad_tables}
 use Rattle.live.specs.Calls.{gives, refused}
 use Rattle.agreement.specs.Calls.{Call, reporting, ending, told, ended, run}
 use Rattle.promises.specs.Text.{text}
@@ -119,15 +120,15 @@ fallen = reporting 1 (saying true 0) ∷ reporting 2 (saying true 0) ∷ ending 
 
 pub record Reports : Type 0 where
   -- #107: "In document 01's example for 16 the first report of the pan alone then gives 19"
-  pub sixteen_nineteen : (lent : List ℤ) → length lent ≡ 2 * 1089
+  pub sixteen_nineteen : (lent : List ℤ) → bad_tables 2 lent ≡ false
       → (run (after_opening 1 2 (5 ∷ []) (0 ∷ []) lent) fallen).answers ≡ told 0 ∷ told 0 ∷ ended (gives (lowered (item_set (1 ∷ [])))) ∷ told 19 ∷ []
   -- "and 16 still comes where tables filled anew are lent from there on"
-  pub sixteen_anew : (lent : List ℤ) → length lent ≡ 2 * 1089
+  pub sixteen_anew : (lent : List ℤ) → bad_tables 2 lent ≡ false
       → (run (record { auction = (run (after_opening 1 2 (5 ∷ []) (0 ∷ []) lent) fallen).last.auction; tables = flat_all 2 λ k. opening 1 })
       (reporting 1 (saying false 1) ∷ reporting 2 (saying false 1) ∷ ending ∷ [])).answers
       ≡ told 0 ∷ told 0 ∷ ended (refused 16) ∷ []
   -- "in its example for 17 the first report gives 19"
-  pub seventeen_nineteen : (lent : List ℤ) → length lent ≡ 2 * 1089
+  pub seventeen_nineteen : (lent : List ℤ) → bad_tables 2 lent ≡ false
       → (run (after_opening 1 2 (4095 ∷ []) (0 ∷ []) lent) (reporting 1 (saying false 1) ∷ [])).answers ≡ told 19 ∷ []
 
 pub record Cases : Type 0 where

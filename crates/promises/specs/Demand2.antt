@@ -231,7 +231,7 @@ pub record Live : Type 0 where
   -- a read writes the record's rounds, rents and first names, in three lines
   pub names_are : (r : Auction) → names_of r ≡ assignment r.items (items_above r) (reports_of r)
   pub reads : (r : Auction) (out : List ℕ) → read_number r out ≡ 0
-      → read_bytes r out ≡ written_to out (closing_sheet r.items r.bidders r.raised r.lowered r.prices (names_of r))
+      → read_bytes r out ≡ written_to out (closing_sheet r.items r.bidders r.raised r.lowered r.prices (assignment r.items (items_above r) (reports_of r)))
 
 pub record Demand2 : Type 0 where
   pub demands : Demands

@@ -14,7 +14,7 @@ use Rattle.rule.specs.Refusal.{on, first}
 use Rattle.lines.specs.Lines.{closing_sheet, amounts_line, closing_length, sealed_length, written_to}
 use Rattle.differences.specs.Lent.{flat_all}
 use Rattle.live.specs.Auction.{well_formed}
-use Rattle.live.specs.Tables.{tables_fit}
+use Rattle.live.specs.Tables.{bad_tables, tables_fit}
 use Rattle.live.specs.Calls.{open_number, open_above_number, open_auction, open_above, filled_by, report, clear, end_number, gives, refused, end_answer, end_next, end_tables}
 use Rattle.live.specs.Reading.{names_of, read_number, read_bytes}
 use Rattle.live.specs.declared.Auction.{Auction}
@@ -46,10 +46,13 @@ given (ended (gives r) ∷ rest) = r ∷ given rest
 given (ended (refused n) ∷ rest) = given rest
 given (shown n out ∷ rest) = given rest
 
--- no answer is this number, `number_of` being as `Demand1.Refused` has it
+-- no answer is this number
 unfoldable pub Without : ℕ → List Answer → Type 0
 Without n [] = Unit {0}
-Without n (a ∷ rest) = (number_of a ≡ n → ⊥) × Without n rest
+Without n (told x ∷ rest) = (x ≡ n → ⊥) × Without n rest
+Without n (ended (gives r) ∷ rest) = Without n rest
+Without n (ended (refused x) ∷ rest) = (x ≡ n → ⊥) × Without n rest
+Without n (shown x out ∷ rest) = (x ≡ n → ⊥) × Without n rest
 
 -- what each call of a list answers and leaves, and a list one call after the other, by what the functions in `src` promise of each
 pub record Listed : Type 0 where
@@ -122,14 +125,14 @@ pub record Agrees (s : Sheet) (lent : List ℤ) (calls : List Call) (theirs : Li
   -- "11 never applies", nor 3 to the tables
   pub no_eleven : Without 11 theirs
   pub well-formed : well_formed (live s lent calls).last.auction ≡ true
-  pub tables_long : length (live s lent calls).last.tables ≡ length s.bids * 1089
+  pub tables_long : bad_tables (length s.bids) (live s lent calls).last.tables ≡ false
   pub tables-fit : tables_fit (live s lent calls).last.auction (live s lent calls).last.tables ≡ true
 
 pub record Demand3Live : Type 0 where
   pub listed : Listed
   -- "This is a single claim about the whole list, not one for each call": of every sheet within the limits with at most forty rakers (#108), whatever tables of the
   -- right length are lent
-  pub agreement : (s : Sheet) → within_limits s ≡ true → length s.bids ≤ 40 → (lent : List ℤ) → length lent ≡ length s.bids * 1089
+  pub agreement : (s : Sheet) → within_limits s ≡ true → length s.bids ≤ 40 → (lent : List ℤ) → bad_tables (length s.bids) lent ≡ false
       → (calls : List Call) (theirs : List Answer) (t : Machine) → machine_run s (begin s) calls ≡ ran theirs t → Agrees s lent calls theirs t
   -- of any list, whatever is reported: after an opening that is not turned down the record is well formed and the tables fit, every call keeps them so, and 11 is given
   -- to none
