@@ -22,7 +22,7 @@ use Rattle.rule.proofs.EmptySets as empty
 use Rattle.rule.proofs.Closing.{closing}
 use Rattle.rule.proofs.Order as order
 use Rattle.rule.proofs.Fitting as fitting
-use Rattle.promises.specs.Demand2.{Demands, Sets, NoLater, Names, AtRents, Rounds, Demand2}
+use Rattle.promises.specs.Demand2.{Demands, Sets, NoLater, Names, AtPrices, Rounds, Demand2}
 use Rattle.promises.proofs.AtClose.{at_close, raised_by, lowered_by}
 use Rattle.promises.proofs.Live.{live}
 
@@ -117,9 +117,9 @@ names =
       floors_are = λ floors xs. refl;
     }
 
-at_rents : AtRents
+at_prices : AtPrices
 unfolding demands
-at_rents =
+at_prices =
     record {
       demands_are = λ s p. refl;
       rising_is = λ s p. refl;
@@ -154,4 +154,4 @@ rounds s c =
     }
 
 pub demand2 : Demand2
-demand2 = record { demands = demanded; sets = sets; names = names; at_rents = at_rents; rounds = λ s e. at_close s (closing s e) (Rounds s) (rounds s (closing s e)); live = live }
+demand2 = record { demands = demanded; sets = sets; names = names; at_prices = at_prices; rounds = λ s e. at_close s (closing s e) (Rounds s) (rounds s (closing s e)); live = live }

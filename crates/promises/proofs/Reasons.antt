@@ -33,7 +33,7 @@ pub request101 : Request101
 unfolding bidders_with reason_of round_count fitting answer_of
 request101 =
     record {
-      rakers_are = λ ds f. refl;
+      bidders_are = λ ds f. refl;
       of_a_rise = λ m ds x. refl;
       of_a_fall = λ m ds x. refl;
       rises = λ s e. at_close s (closing s e) (λ u d p. (k : ℕ) → k < u → reason_at s k ≡ reason_of s.items (demands_at s (path s k).prices) (raised (excess_demand_at s (path s k).prices)))

@@ -107,7 +107,7 @@ pub record Names : Type 0 where
   pub floors_are : (floors xs : List ℕ) → floor_total floors xs ≡ sum (length xs) λ b. amount floors (option xs b)
 
 -- of a sheet at rents p: every raker's demand, the two sets, what fits, and the names are those that the bids give
-pub record AtRents : Type 0 where
+pub record AtPrices : Type 0 where
   pub demands_are : (s : Sheet) (p : List ℕ) → demands_at s p ≡ map (demand s.items p) s.bids
   pub rising_is : (s : Sheet) (p : List ℕ) → excess_demand_at s p ≡ excess_demand s.items (demands_at s p)
   pub falling_is : (s : Sheet) (p : List ℕ) → excess_supply_at s p ≡ excess_supply s.items (above_floors s.items s.floors p) (demands_at s p)
@@ -237,6 +237,6 @@ pub record Demand2 : Type 0 where
   pub demands : Demands
   pub sets : Sets
   pub names : Names
-  pub at_rents : AtRents
+  pub at_prices : AtPrices
   pub rounds : (s : Sheet) → within_limits s ≡ true → Rounds s (close s).ups (close s).downs (close s).prices
   pub live : Live

@@ -35,7 +35,7 @@ Line bytes k r =
 
 pub record Request101 : Type 0 where
   -- "For a rise these are the rakers who want only pans of the set; for a fall, those who want some pan of it": of m pans and any demands or reports
-  pub rakers_are : (ds : List Demand) (f : Demand → Bool) → bidders_with ds f ≡ set_of (length ds) λ b. f (nth ds (b - 1))
+  pub bidders_are : (ds : List Demand) (f : Demand → Bool) → bidders_with ds f ≡ set_of (length ds) λ b. f (nth ds (b - 1))
   pub of_a_rise : (m : ℕ) (ds : List Demand) (x : ℕ) → reason_of m ds (raised x) ≡ record { kind = 1; items = x; bidders = bidders_with ds (nothing_outside m x) }
   pub of_a_fall : (m : ℕ) (ds : List Demand) (x : ℕ) → reason_of m ds (lowered x) ≡ record { kind = 2; items = x; bidders = bidders_with ds (something_in m x) }
   -- the reasons of a sheet's rounds: first those of its rises, then those of its falls, each at the rents before the round, and then none
