@@ -2,11 +2,15 @@
 use Prim.Native.Nat.{ℕ, suc, ◌-◌, ◌≤◌, ◌<◌}
 use mathlib.Core.Path.{◌≡◌, sym, ap, ◌∙◌, subst}
 use mathlib.Core.Bool.{Bool, true, false, ◌&&◌, not}
-use mathlib.Core.List.{List, []}
+use mathlib.Core.List.{List, [], ◌++◌}
 use mathlib.Core.Logic.{◌⊎◌, inl, inr}
 use native.Mathlib.Omega.{arith}
 use native.Mathlib.Nat.{not-suc-le-zero}
-use lib.ListN.{length, get_or}
+use lib.ListN.{length, get_or, take, drop, replicate, get_or-eq_default}
+use lib.Seq.{get_or-take, length-take-le}
+use Rattle.sets.specs.Lists.{places}
+use Rattle.sets.proofs.Lists.{places-at, places-length}
+use Rattle.sets.proofs.Filling.{front-places}
 use Rattle.sets.specs.Bit.{is_set, has, set_of}
 use Rattle.sets.proofs.Counting.{lt-or-le, and_left, and_right, and_both, not-both, not_is}
 use Rattle.sets.proofs.Members.{is_set-set_of, is_set-empty, set_of-lt, has-zero}
@@ -27,6 +31,30 @@ wants-item n sets nulls c k l = ap (λ (d : Demand). has d.items (suc k)) (repor
 wants-null : (n : ℕ) (sets : List ℕ) (nulls c : ℕ) → c < n → wants (nth (reports n sets nulls) c) 0 ≡ has nulls (suc c)
 unfolding wants
 wants-null n sets nulls c l = ap (λ (d : Demand). d.null) (report n sets nulls c l)
+
+-- the sets of the first bidders, before empty ones
+module _ (n : ℕ) (ln : n ≤ 64) (sets : List ℕ) (long : length sets ≡ 64) (own : List ℕ) (e : own ≡ take n sets) where
+  all-own : List ℕ
+  all-own = own ++ drop n (replicate 64 0)
+
+  count : length own ≡ n
+  count = ap (λ (xs : List ℕ). length xs) e ∙ length-take-le n sets (omega arith)
+
+  in-places : all-own ≡ places 64 own
+  unfolding all-own
+  in-places = front-places 64 n own ln count
+
+  pub own-known : (b : ℕ) → b < n → get_or (own ++ drop n (replicate 64 0)) b 0 ≡ get_or sets b 0
+  unfolding all-own
+  own-known b l = ap (λ (xs : List ℕ). get_or xs b 0) in-places ∙ places-at 64 own b (omega arith) ∙ ap (λ (xs : List ℕ). get_or xs b 0) e ∙ get_or-take n sets b 0 l
+
+  pub own-idle : (b : ℕ) → n ≤ b → get_or (own ++ drop n (replicate 64 0)) b 0 ≡ 0
+  unfolding all-own
+  own-idle b l = ap (λ (xs : List ℕ). get_or xs b 0) in-places ∙ go (lt-or-le b 64)
+    where
+      go : (b < 64) ⊎ (64 ≤ b) → get_or (places 64 own) b 0 ≡ 0
+      go (inl q) = places-at 64 own b q ∙ get_or-eq_default own 0 {n = b} (omega (arith, count))
+      go (inr q) = get_or-eq_default (places 64 own) 0 {n = b} (omega (arith, places-length 64 own))
 
 module _ (n : ℕ) (ln : n ≤ 64) (sets : List ℕ) (nulls above : ℕ) (own : List ℕ) (known : (b : ℕ) → b < n → get_or own b 0 ≡ get_or sets b 0) (idle : (b : ℕ) → n ≤ b → get_or own b 0 ≡ 0)
     (all must : ℕ) (ea : all ≡ set_of n (λ j. true)) (em : must ≡ set_of 64 (λ k. has all k && not (has nulls k))) where

@@ -12,11 +12,11 @@ use lib.ListN.{length, get_or, set, replicate, length-set, length-replicate}
 use lib.Seq.{get_or-set_same, get_or-set_other}
 use borrow.Author.Count.{below_more}
 use borrow.Author.Tests.{eq-eqb, ne_eqb}
-use Rattle.sets.specs.Bit.{is_set, has, set_of}
+use Rattle.sets.specs.Bit.{is_set, has, set_of, lowest, size}
 use Rattle.sets.proofs.Counting.{or-false, and-true, and-right-false, not-both, is_false}
 use Rattle.sets.proofs.Filling.{zeros-at}
 use Rattle.sets.proofs.Members.{is_set-empty, is_set-or, is_set-set_of, has-zero, has-one-more, has-place, empty-has}
-use Rattle.sets.proofs.Taking.{member-lt}
+use Rattle.sets.proofs.Taking.{member-lt, lowest-of, without-less}
 use Rattle.rule.specs.Demand.{wants}
 use Rattle.assignment.specs.Turn.{asks}
 use Rattle.assignment.proofs.Places.{with-use, with-new}
@@ -34,8 +34,8 @@ add_start who items s long l = record { long = long; fits = l; same = λ p c lp.
 
 module _ {who₀ : List ℕ} {items s : ℕ} {who : List ℕ} {rest : ℕ} (g : Adding who₀ items s who rest) where
   -- item i is added
-  pub add-next : (i : ℕ) → 0 < i → i ≤ 32 → is_set rest (i - 1) ≡ true → (rest' : ℕ) → rest' ≡ set_of 32 (λ k. has rest k && not (eqb k i)) → Adding who₀ items s (set who i (bit_or (get_or who i 0) s)) rest'
-  add-next i pos li on rest' er =
+  adds : (i : ℕ) → 0 < i → i ≤ 32 → is_set rest (i - 1) ≡ true → (rest' : ℕ) → rest' ≡ set_of 32 (λ k. has rest k && not (eqb k i)) → Adding who₀ items s (set who i (bit_or (get_or who i 0) s)) rest'
+  adds i pos li on rest' er =
       record {
         long = length-set who i _ ∙ g.long;
         fits = member-lt 32 rest' (λ k. has rest k && not (eqb k i)) er;
@@ -65,6 +65,18 @@ module _ {who₀ : List ℕ} {items s : ℕ} {who : List ℕ} {rest : ℕ} (g : 
       at p c lp (yes e) =
           ap₂ (λ (a h : Bool). a || (is_set s c && h)) (new p c e) (rest_at p lp true (eq-eqb p i e) ∙ and-right-false (has rest p) false refl)
           ∙ joins (is_set (get_or who p 0) c) (is_set s c) ∙ ap (λ (h : Bool). is_set (get_or who p 0) c || (is_set s c && h)) (sym (ap (has rest) e ∙ has-place rest i (λ z. omega arith) ∙ on))
+
+  -- the lowest item that is left
+  module _ (some : rest ≡ 0 → ⊥) (i : ℕ) (low : i ≡ lowest 32 (has rest)) where
+    pub next-item : (0 < i) × (i ≤ 32) × (is_set rest (i - 1) ≡ true)
+    next-item = lowest-of 32 rest g.fits some i low
+
+    module _ (rest' : ℕ) (er : rest' ≡ set_of 32 (λ k. has rest k && not (eqb k i))) where
+      pub add-less : size 32 rest' < size 32 rest
+      add-less = let v = next-item in without-less 32 rest i rest' er v.0 v.1 v.2
+
+      pub add-next : Adding who₀ items s (set who i (bit_or (get_or who i 0) s)) rest'
+      add-next = let v = next-item in adds i v.0 v.1 v.2 rest' er
 
   -- nothing is left
   pub add-end : rest ≡ 0 → (p c : ℕ) → p < 33 → is_set (get_or who p 0) c ≡ is_set (get_or who₀ p 0) c || (is_set s c && has items p)

@@ -8,10 +8,11 @@ use native.Mathlib.Omega.{arith}
 use native.Mathlib.Nat.{not-suc-le-zero}
 use native.Mathlib.Numerals.{add-one}
 use lib.Dec.{eqb}
-use lib.ListN.{length, get_or, set, replicate, length-set}
-use lib.Seq.{get_or-set_same, get_or-set_other}
+use lib.ListN.{length, get_or, take, drop, set, replicate, length-set, length-drop}
+use lib.Seq.{get_or-set_same, get_or-set_other, get_or-take, get_or-drop, length-take-le}
 use borrow.Author.Count.{below_more}
 use native.Mathlib.Decide.{ℕ_discrete}
+use Rattle.std.specs.Int.{from_bool}
 use Rattle.sets.specs.Bit.{bit, is_set, has, set_of, lowest, size}
 use Rattle.sets.proofs.Counting.{lt-or-le, and_left, and_right, and_both, not-both, not_is, is_false, count-le, count-mono}
 use Rattle.sets.proofs.Members.{is_set-empty}
@@ -74,10 +75,14 @@ size-le w s = count-le w (is_set s)
 half : (k b : ℕ) → b < 2 → ((k * 2 + b) / 2 ≡ k) × ((k * 2 + b) % 2 ≡ b)
 half k b l = (omega arith, omega arith)
 
-pub places-are : (items b : ℕ) (null : Bool) → b < 2 → eqb b 1 ≡ null → (p : ℕ) → is_set (items * 2 + b) p ≡ wants (record { null = null; items = items }) p
+places-are : (items b : ℕ) (null : Bool) → b < 2 → eqb b 1 ≡ null → (p : ℕ) → is_set (items * 2 + b) p ≡ wants (record { null = null; items = items }) p
 unfolding is_set bit wants has
 places-are items b null l e zero = ap (λ (x : ℕ). eqb x 1) (half items b l).1 ∙ e
 places-are items b null l e (suc k) = ap (λ (x : ℕ). eqb (bit x k) 1) (half items b l).0
+
+pub places_have : (items s : ℕ) (null : Bool) → s ≡ items * 2 + from_bool null → (p : ℕ) → is_set s p ≡ wants (record { null = null; items = items }) p
+places_have items s true e p = ap (λ (r : ℕ). is_set r p) e ∙ places-are items 1 true (omega arith) refl p
+places_have items s false e p = ap (λ (r : ℕ). is_set r p) e ∙ places-are items 0 false (omega arith) refl p
 
 -- ---- the lowest item among places: t is s without null
 
@@ -142,6 +147,13 @@ goes-once spare q = go (goes-cases spare q)
 
 -- ---- the places that the bidders k to b have
 
+-- what the bidder at place j of those from k on, below n, has
+pub part-at : (x : List ℕ) (k n j : ℕ) → j < n - k → get_or (take (n - k) (drop k x)) j 0 ≡ get_or x (k + j) 0
+part-at x k n j l = get_or-take (n - k) (drop k x) j 0 l ∙ get_or-drop k x j 0
+
+pub part-long : (x : List ℕ) (k n : ℕ) → n ≤ length x → length (take (n - k) (drop k x)) ≡ n - k
+part-long x k n l = length-take-le (n - k) (drop k x) (omega (arith, length-drop {A = ℕ} k x))
+
 pub held_none : (x : List ℕ) (k : ℕ) → Held x k k 0
 held_none x k = record { only = λ p h. absurd (not-both (is_set 0 p) h (is_set-empty p)); all = λ c lo hi. absurd (let no : ⊥ = omega arith in no) }
 
@@ -158,9 +170,6 @@ held_next x k b l s r ls small h e = record { only = λ p o. come p (with-use s 
         let same : c ≡ b = omega arith in
         let at = ap (λ (j : ℕ). get_or x j 0) same in
         ap (is_set r) at ∙ with-new s (get_or x b 0) r e (omega arith)
-
-pub held-end : (x : List ℕ) (k b n s : ℕ) → Held x k b s → b ≤ n → n ≤ b → Held x k n s
-held-end x k b n s h l g = record { only = λ p o. let w = h.only p o in (w.0, w.1, omega (arith, w.2), w.3); all = λ c lo hi. h.all c lo (omega arith) }
 
 -- ---- the bidders who remain
 
@@ -180,7 +189,7 @@ pub seats-none : (holder : List ℕ) (c : ℕ) → Seat 0 holder c (get_or (repl
 unfolding Seat
 seats-none holder c = inr (zeros-at 64 c, λ j l. absurd (not-suc-le-zero l))
 
-module _ (holder : List ℕ) (k : ℕ) (x y : List ℕ) (c : ℕ) (lc : c < 64) (long : length x ≡ 64) (s : Seat k holder c (get_or x c 0)) where
+module _ (holder : List ℕ) (k : ℕ) (x y : List ℕ) (c : ℕ) (lc : c < 64) (long : length y ≡ 64) (s : Seat k holder c (get_or x c 0)) where
   seat-past : get_or y c 0 ≡ get_or x c 0 → (get_or holder k 0 ≡ c + 1 → ⊥) → Seat (k + 1) holder c (get_or y c 0)
   unfolding Seat
   seat-past e ne = go s
@@ -201,9 +210,5 @@ module _ (holder : List ℕ) (k : ℕ) (x y : List ℕ) (c : ℕ) (lc : c < 64) 
 
       go : Dec (c ≡ h) → Seat (k + 1) holder c (get_or y c 0)
       go (yes q) =
-          inl (k, omega arith, ap (λ (z : List ℕ). get_or z c 0) is ∙ ap (λ (j : ℕ). get_or (set x j (k + 1)) c 0) (sym q) ∙ get_or-set_same x c (k + 1) 0 (omega arith) ∙ add-one k, omega arith)
+          inl (k, omega arith, ap (λ (z : List ℕ). get_or z c 0) is ∙ ap (λ (j : ℕ). get_or (set x j (k + 1)) c 0) (sym q) ∙ get_or-set_same x c (k + 1) 0 (omega (arith, ap (λ (z : List ℕ). length z) is, length-set x h (k + 1))) ∙ add-one k, omega arith)
       go (no ne) = seat-past (ap (λ (z : List ℕ). get_or z c 0) is ∙ get_or-set_other x h c (k + 1) 0 ne) (λ q. ne (omega arith))
-
-pub given-long : (x y : List ℕ) (b p : ℕ) → length x ≡ 64 → (b ≡ 0 → y ≡ x) → (0 < b → y ≡ set x (b - 1) p) → length y ≡ 64
-given-long x y zero p long none some = ap length (none refl) ∙ long
-given-long x y (suc b) p long none some = ap length (some (omega arith)) ∙ length-set x (suc b - 1) p ∙ long

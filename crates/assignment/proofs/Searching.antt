@@ -1,23 +1,50 @@
 -- How far a search has come, turn after turn: which places are seen and done, and which bidders have taken their step. THEORY.md 3.2. Assumes nothing.
-use Prim.Native.Nat.{ℕ, suc, ◌+◌, ◌-◌, ◌*◌, ◌^◌, ◌≤◌, ◌<◌}
+use Prim.Native.Nat.{ℕ, zero, suc, ◌+◌, ◌-◌, ◌*◌, ◌^◌, ◌≤◌, ◌<◌}
 use mathlib.Core.Path.{◌≡◌, refl, sym, ap, ◌∙◌, subst}
 use mathlib.Core.Bool.{Bool, true, false, ◌&&◌, ◌||◌, not}
 use mathlib.Core.List.{List}
 use mathlib.Core.Logic.{◌⊎◌, inl, inr}
 use native.Mathlib.Omega.{arith}
+use native.Mathlib.Nat.{lt_of_lt_of_le}
+use lib.Pow.{pow-lt, pow_mono}
 use lib.Bits.{bit_or}
 use lib.Dec.{eqb}
 use lib.ListN.{get_or, replicate}
 use Rattle.sets.specs.Bit.{is_set, has, set_of, lowest, size}
-use Rattle.sets.proofs.Counting.{not-both}
-use Rattle.sets.proofs.Members.{is_set-empty, is_set-ext}
+use Rattle.sets.proofs.Counting.{lt-or-le, not-both, is_false}
+use Rattle.sets.proofs.Members.{is_set-empty, is_set-ext, is_set-above, is_set-set_of, set_of-lt}
 use Rattle.sets.proofs.Taking.{member-lt, lowest-of, size_less}
 use Rattle.assignment.specs.Search.{goes_on, Step, Tree, Sub, Expanded, Grown, Moves, Pooled, Start}
 use Rattle.assignment.proofs.Places.{with-use, with-old, with-new, both-use, both-make, other-use, other-make, size_mono, size-le, goes-null}
 use Rattle.assignment.proofs.Growing.{or-old, or_new, tree-start, tree-later, tree-grows, tree-wide}
 
+-- a set of places alone fits
+below-power : (n : ℕ) → n < 2 ^ n
+below-power zero = omega arith
+below-power (suc n) = let more : 2 ^ n < 2 ^ suc n = pow-lt (omega arith) in omega (arith, below-power n)
+
+places-fit : (s : ℕ) → ((p : ℕ) → is_set s p ≡ true → p < 33) → s < 2 ^ 64
+unfolding has
+places-fit s low = omega (arith, same, few)
+  where
+    all : ℕ
+    all = set_of 33 (has s)
+
+    few : all < 2 ^ 33
+    few = set_of-lt 33 (has s)
+
+    at : (p : ℕ) → (p < 33) ⊎ (33 ≤ p) → is_set s p ≡ is_set all p
+    at p (inl l) = sym (is_set-set_of 33 (has s) p l)
+    at p (inr l) = is_false (is_set s p) (λ o. let no = low p o in omega arith) ∙ sym (is_set-above 33 all p few l)
+
+    same : s ≡ all
+    same =
+        let more : 2 ^ s ≤ 2 ^ (s + 33) = pow_mono (omega arith) in
+        let wide : 2 ^ 33 ≤ 2 ^ (s + 33) = pow_mono {i = 33} (omega arith) in
+        is_set-ext (s + 33) s all (lt_of_lt_of_le (below-power s) more) (lt_of_lt_of_le few wide) (λ p l. at p (lt-or-le p 33))
+
 -- the next place: the lowest that is seen and not done
-pub next_place : (done seen : ℕ) → done < 2 ^ 64 → seen < 2 ^ 64 → Sub done seen → (done ≡ seen → ⊥) → (fresh : ℕ) → fresh ≡ set_of 64 (λ j. has seen j && not (has done j))
+next_place : (done seen : ℕ) → done < 2 ^ 64 → seen < 2 ^ 64 → Sub done seen → (done ≡ seen → ⊥) → (fresh : ℕ) → fresh ≡ set_of 64 (λ j. has seen j && not (has done j))
     → (l : ℕ) → l ≡ lowest 64 (has fresh) → (0 < l) × (is_set seen (l - 1) ≡ true) × (is_set done (l - 1) ≡ false)
 next_place done seen ld ls sub ne fresh ef l el =
     let low = lowest-of 64 fresh (member-lt 64 fresh (λ j. has seen j && not (has done j)) ef) some l el in
@@ -31,10 +58,6 @@ next_place done seen ld ls sub ne fresh ef l el =
         same p l true c b e = c ∙ sym (sub p c)
         same p l false c false e = c ∙ sym e
         same p l false c true e = absurd (not-both (is_set 0 p) (ap (λ (s : ℕ). is_set s p) (sym z) ∙ other-make seen done fresh ef p l e c) (is_set-empty p))
-
--- bidder k has a place
-pub root-small : {who x : List ℕ} {spare later k : ℕ} → Start who x spare later k → get_or x k 0 < 33
-root-small {k = k} s = s.seated.small k (omega arith) s.more
 
 module _ {who x : List ℕ} {spare later k : ℕ} (s : Start who x spare later k) (unpriced : ℕ) where
   -- the tree of a search, from what bidder k has
@@ -68,6 +91,24 @@ module _ {who x : List ℕ} {spare later k : ℕ} (s : Start who x spare later k
 module _ {who x : List ℕ} {spare later k : ℕ} {s : Start who x spare later k} {unpriced wish : ℕ} {next entered : List ℕ} {done seen left turn : ℕ} (g : Searching s unpriced wish next entered done seen left turn) where
   pub turn_small : turn ≤ 65
   turn_small = omega (arith, g.turns, size-le 64 done)
+
+  seen-fits : seen < 2 ^ 64
+  seen-fits = places-fit seen (λ p o. (g.tree.opened p o).0)
+
+  done-fits : done < 2 ^ 64
+  done-fits = places-fit done (λ p o. (g.tree.opened p (g.within p o)).0)
+
+  -- the place of the turn: it is seen, and not done
+  pub record Fresh (l : ℕ) : Type 0 where
+    pub pos : 0 < l
+    pub on : is_set seen (l - 1) ≡ true
+    pub off : is_set done (l - 1) ≡ false
+    pub small : l - 1 < 33
+
+  pub fresh-place : (done ≡ seen → ⊥) → (fresh : ℕ) → fresh ≡ set_of 64 (λ j. has seen j && not (has done j)) → (l : ℕ) → l ≡ lowest 64 (has fresh) → Fresh l
+  fresh-place ne fresh ef l el =
+      let next = next_place done seen done-fits seen-fits g.within ne fresh ef l el in
+      record { pos = next.0; on = next.1; off = next.2; small = (g.tree.opened (l - 1) next.1).0 }
 
   -- all that are seen are done
   pub search-end : done ≡ seen → ((is_set seen wish ≡ true) ⊎ Expanded s.w x unpriced spare k s.n seen seen) × Rooted s unpriced next entered seen 65536
@@ -154,7 +195,7 @@ module _ {who x : List ℕ} {spare later k : ℕ} {s : Start who x spare later k
               inr (e.0, omega (arith, e.3, d.1, s.most), d.0, d.1, e.2, d.2),
             ))
 
-        module _ (ld : done < 2 ^ 64) (off : is_set done q ≡ false) (left' done' : ℕ) (el : left' ≡ set_of 64 (λ j. has left j && not (has movers j)))
+        module _ (off : is_set done q ≡ false) (left' done' : ℕ) (el : left' ≡ set_of 64 (λ j. has left j && not (has movers j)))
             (ed : done' ≡ set_of 64 (λ j. has done j || eqb j (q + 1))) where
           -- a later bidder who demands q is a mover, or has taken its step
           q-moves : (b : ℕ) → k < b → b < s.n → is_set (get_or s.w b 0) q ≡ true → (is_set left b ≡ true) ⊎ (is_set seen (get_or x b 0) ≡ true) → is_set after (get_or x b 0) ≡ true
@@ -168,7 +209,7 @@ module _ {who x : List ℕ} {spare later k : ℕ} {s : Start who x spare later k
           pub search-next : Searching s unpriced wish next'' entered'' done' after left' (turn + 1)
           search-next =
               record {
-                turns = omega (arith, g.turns, size_less 64 done done' (with-old done q done' ed ld) q (omega (arith, q-small)) (with-new done q done' ed (omega (arith, q-small))) off);
+                turns = omega (arith, g.turns, size_less 64 done done' (with-old done q done' ed done-fits) q (omega (arith, q-small)) (with-new done q done' ed (omega (arith, q-small))) off);
                 within = λ c o. within c (with-use done q done' ed c o);
                 expanded = expanded g.expanded;
                 still = λ b o. g.still b (other-use left movers left' el b o).0;

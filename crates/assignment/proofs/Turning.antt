@@ -85,6 +85,11 @@ module _ {w who x : List ℕ} {above opens later k n : ℕ} (t : Turn w who x ab
       low : (j : ℕ) → 0 < j → j < 33 → (get_or x k 0 ≡ 0) ⊎ (j < get_or x k 0) → Completed t j ≡ true → ⊥
       low j pos l le c = first_none f j pos l (subst (λ (a : ℕ). (a ≡ 0) ⊎ (j < a)) (sym ra) le) (open_make j l (completed-open t j c)) (completed-wanted t j c)
 
+  -- the same, where a is what it has
+  pub kept-as : {r a : ℕ} → FirstOf opens (get_or w k 0) r → a ≡ get_or x k 0 → r ≡ a
+      → (a ≡ next_option n t.sets t.nulls above t.ys) × Completes n t.sets t.nulls above (t.ys ++ (a ∷ [])) x
+  kept-as {r} f ea q = subst (λ (o : ℕ). (o ≡ next_option n t.sets t.nulls above t.ys) × Completes n t.sets t.nulls above (t.ys ++ (o ∷ [])) x) (sym ea) (kept f (q ∙ ea))
+
   module _ {unpriced spare : ℕ} (g : Given x above opens k n unpriced spare) where
     is-priced : (p : ℕ) → is_set g.priced p ≡ has above p
     is-priced p = g.priced-is p ∙ wants-item above p

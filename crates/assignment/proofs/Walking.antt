@@ -155,9 +155,6 @@ module _ {x₀ next entered : List ℕ} {spare a i k : ℕ} (s : Way x₀ next e
     unfolding q
     time-falls = here.1
 
-    pub time-small : get_or entered p 0 < 65536
-    time-small = let e = ap time g.still in omega (arith, s.tree.before p g.seen)
-
     pub mover-small : get_or entered p 0 % 128 ≤ 64
     unfolding q Step
     mover-small = go here.2
@@ -261,6 +258,12 @@ module _ {x₀ next entered : List ℕ} {spare a i k : ℕ} (s : Way x₀ next e
         go (inr v) =
             let one : time p % 128 - 1 ≡ v.0 = omega (arith, v.1) in
             walk-move v.0 v.2 v.3 v.4 v.5 y (some (omega (arith, v.1)) ∙ ap (λ (b : ℕ). set x b q) one)
+
+    -- where b is the time, and v the place, that are noted at p
+    pub walk-on : (b v : ℕ) → b ≡ get_or entered p 0 → v ≡ get_or next p 0 → (y : List ℕ) → (b % 128 ≡ 0 → y ≡ x) → (0 < b % 128 → y ≡ set x (b % 128 - 1) v) → Walking (goes_on spare v) y
+    walk-on b v eb ev y =
+        subst (λ (o : ℕ). (b % 128 ≡ 0 → y ≡ x) → (0 < b % 128 → y ≡ set x (b % 128 - 1) o) → Walking (goes_on spare o) y) (sym ev)
+        (subst (λ (t : ℕ). (t % 128 ≡ 0 → y ≡ x) → (0 < t % 128 → y ≡ set x (t % 128 - 1) (get_or next p 0)) → Walking (goes_on spare (get_or next p 0)) y) (sym eb) (walk-next y))
 
   -- the way ends at a
   pub walk-done : (x : List ℕ) → Walking a x → Completes s.n s.turn.sets s.turn.nulls s.above (s.turn.ys ++ (i ∷ [])) x

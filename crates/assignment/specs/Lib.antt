@@ -1,4 +1,5 @@
 pub mod Assigned
 pub mod Choice
 pub mod Search
+pub mod Standing
 pub mod Turn

@@ -5,53 +5,48 @@
 
 ghost use Rattle.std.specs.Prelude.{◌≡◌, true, false, ◌&&◌, ◌||◌, [], ◌∷◌, ◌++◌, ◌⊎◌, ℕ, ◌+◌, ◌-◌, ◌*◌, ◌≤◌, ◌<◌, length, get_or, set, replicate};
 ghost use Rattle.sets.specs.Bit.{is_set, has, set_of, lowest};
+ghost use Rattle.std.specs.Int.{from_bool};
 ghost use Rattle.sets.specs.Lists.{places};
-ghost use Rattle.rule.specs.Demand.{wants};
 ghost use Rattle.rule.specs.Assignment.{assignment};
 ghost use Rattle.round.specs.Reports.{reports};
 ghost use Rattle.assignment.specs.Assigned.{assigned};
 ghost use Rattle.assignment.specs.Choice.{next_option, Completes};
-ghost use Rattle.assignment.specs.Search.{goes_on, Tree, Expanded, Grown, Moves, Pooled, Start};
-ghost use Rattle.assignment.specs.Turn.{Seat, Complete, Held, FirstOf, asks, Turn, Way};
+ghost use Rattle.assignment.specs.Search.{goes_on, Tree, Expanded, Moves, Start};
+ghost use Rattle.assignment.specs.Turn.{Seat, Complete, Held, FirstOf, asks, Way};
+ghost use Rattle.assignment.specs.Standing.{Grows, Pools, AtTurn, Chosen};
+
+use sets::Set;
+use std::array;
 
 // The places of a set of items, and null if it is in too: null is place 0, item i is place i, and bit p stands for place p.
 fn places_of(items: u32, null: bool) -> u64
-    ensures { (p : ℕ) → is_set result p ≡ wants (record { null = null; items = items }) p }
+    ensures { result ≡ items * 2 + from_bool null }
 {
-    let s = items as u64 * 2;
-    if null {
-        return s + 1;
-    }
-    s
+    u64::from(items) * 2 + u64::from(null)
 }
 
 // Each bidder's demand as a set of places.
 fn demands(sets: &[u32; 64], nulls: u64) -> [u64; 64]
     ensures { (b p : ℕ) → b < 64 → is_set (get_or result b 0) p ≡ asks sets.now nulls b p }
 {
-    let mut w = [0u64; 64];
-    let mut b: usize = 0;
-    while b < 64 {
-        w[b] = places_of(sets[b], sets::has_bidder(nulls, b + 1));
-        b += 1;
-    }
-    w
+    array::from_fn(|b| places_of(sets[b], nulls.has(b + 1)))
 }
 
 // The bidder, alone in a set, joins those who demand each of the items.
 fn add_demand(who: &mut [u64; 33], items: u32, bidder: u64)
-    requires { length who.old ≡ 33 }
-    ensures { (length who.new ≡ 33)
-        × ((p c : ℕ) → p < 33 → is_set (get_or who.new p 0) c ≡ is_set (get_or who.old p 0) c || (is_set bidder c && has items p)) }
+    ensures { (p c : ℕ) → p < 33
+        → is_set (get_or who.new p 0) c ≡ is_set (get_or who.old p 0) c || (is_set bidder c && has items p) }
 {
     let mut rest = items;
     while rest != 0 {
-        let i = sets::lowest_item(rest);
-        who[i] = who[i] | bidder;
-        rest = sets::without_item(rest, i);
+        let i = rest.lowest();
+        who[i] |= bidder;
+        rest = rest.without(i);
     }
 }
 
+// Stays: that there are at most 64 bidders is asked by each function that goes over the first n. It comes bare from the public call and goes
+// bare into ranges and slices; a type for it would be opened at each of them.
 // Who demands each place, of the first n bidders: bit b stands for bidder number b + 1.
 fn wanted_by(sets: &[u32; 64], nulls: u64, n: usize) -> [u64; 33]
     requires { n ≤ 64 }
@@ -59,10 +54,8 @@ fn wanted_by(sets: &[u32; 64], nulls: u64, n: usize) -> [u64; 33]
 {
     let mut who = [0u64; 33];
     who[0] = nulls;
-    let mut b: usize = 0;
-    while b < n {
-        add_demand(&mut who, sets[b], sets::with_bidder(0, b + 1));
-        b += 1;
+    for b in 0..n {
+        add_demand(&mut who, sets[b], u64::only(b + 1));
     }
     who
 }
@@ -70,14 +63,11 @@ fn wanted_by(sets: &[u32; 64], nulls: u64, n: usize) -> [u64; 33]
 // What each bidder has in a match.
 fn seats(holder: &[u8; 32]) -> [u8; 64]
     requires { (k : ℕ) → k < 32 → get_or holder.now k 0 ≤ 64 }
-    ensures { (length result ≡ 64) × ((c : ℕ) → c < 64 → Seat 32 holder.now c (get_or result c 0)) }
+    ensures { (c : ℕ) → c < 64 → Seat 32 holder.now c (get_or result c 0) }
 {
     let mut x = [0u8; 64];
-    let mut k: usize = 0;
-    while k < 32 {
-        let b = holder[k] as usize;
-        give(&mut x, b, k + 1);
-        k += 1;
+    for (k, b) in holder.iter().enumerate() {
+        give(&mut x, usize::from(*b), k + 1);
     }
     x
 }
@@ -99,11 +89,8 @@ fn held(x: &[u8; 64], k: usize, n: usize) -> u64
     ensures { Held x.now k n result }
 {
     let mut s: u64 = 0;
-    let mut b = k;
-    while b < n {
-        let p = x[b] as usize;
-        s = sets::with_bidder(s, p + 1);
-        b += 1;
+    for p in &x[k..n] {
+        s = s.with(usize::from(*p) + 1);
     }
     s
 }
@@ -112,7 +99,7 @@ fn held(x: &[u8; 64], k: usize, n: usize) -> u64
 fn first_item(s: u64) -> usize
     ensures { result ≡ lowest 63 (is_set s) }
 {
-    let p = sets::lowest_bidder(sets::without_bidder(s, 1));
+    let p = s.without(1).lowest();
     if p == 0 {
         return 0;
     }
@@ -124,76 +111,10 @@ fn goes_on(spare: u64, q: usize) -> usize
     requires { q < 64 }
     ensures { result ≡ goes_on spare q }
 {
-    if sets::has_bidder(spare, q + 1) {
+    if spare.has(q + 1) {
         return 0;
     }
     q
-}
-
-// Place p is seen, unless it is already: the way goes on from there to q. The time t is 128 times the turn, and the number of the bidder who moves.
-fn enter(
-    next: &mut [u8; 33],
-    entered: &mut [u16; 33],
-    seen: u64,
-    p: usize,
-    q: usize,
-    t: usize,
-) -> u64
-    requires { (p < 33) × (q < 33) × (t < 65536) × (length next.old ≡ 33) × (length entered.old ≡ 33) }
-    ensures { (is_set result p ≡ true)
-        × Grown q (λ o v. (o ≡ p) × (v ≡ t)) next.old entered.old seen next.new entered.new result }
-{
-    if sets::has_bidder(seen, p + 1) {
-        return seen;
-    }
-    next[p] = q as u8;
-    entered[p] = t as u16;
-    sets::with_bidder(seen, p + 1)
-}
-
-// The step of each mover: from what it has to q, which it demands.
-fn sweep(
-    x: &[u8; 64],
-    next: &mut [u8; 33],
-    entered: &mut [u16; 33],
-    seen: u64,
-    q: usize,
-    turn: usize,
-    movers: u64,
-) -> u64
-    requires { (q < 33) × (turn ≤ 65) × (length next.old ≡ 33) × (length entered.old ≡ 33)
-        × ((b : ℕ) → is_set movers b ≡ true → get_or x.now b 0 < 33) }
-    ensures { ((b : ℕ) → is_set movers b ≡ true → is_set result (get_or x.now b 0) ≡ true)
-        × Grown q (Moves x.now movers turn) next.old entered.old seen next.new entered.new result }
-{
-    let mut s = seen;
-    let mut rest = movers;
-    while rest != 0 {
-        let b = sets::lowest_bidder(rest);
-        let p = x[b - 1] as usize;
-        s = enter(next, entered, s, p, q, 128 * turn + b);
-        rest = sets::without_bidder(rest, b);
-    }
-    s
-}
-
-// The step of nobody: from null to q, if q may be left. With null the items that nobody has are seen.
-fn pool(
-    next: &mut [u8; 33],
-    entered: &mut [u16; 33],
-    seen: u64,
-    q: usize,
-    unpriced: u64,
-    spare: u64,
-    turn: usize,
-) -> u64
-    requires { (q < 33) × (turn ≤ 65) × (length next.old ≡ 33) × (length entered.old ≡ 33) }
-    ensures { Pooled q unpriced spare (128 * turn) next.old entered.old seen next.new entered.new result }
-{
-    if !sets::has_bidder(unpriced, q + 1) {
-        return seen;
-    }
-    enter(next, entered, seen, 0, q, 128 * turn) | spare
 }
 
 // What is done, once the wish is seen: everything, for nothing better can be found.
@@ -201,129 +122,149 @@ fn settled(done: u64, seen: u64, wish: usize) -> u64
     requires { wish < 64 }
     ensures { (is_set seen wish ≡ true → result ≡ seen) × (is_set seen wish ≡ false → result ≡ done) }
 {
-    if sets::has_bidder(seen, wish + 1) {
+    if seen.has(wish + 1) {
         return seen;
     }
     done
 }
 
-// The places from which what bidder k has can be reached, with a way from each: all of them, or so many that the wish is among them. Each
-// place is expanded once, and each later bidder takes at most one step.
-fn search(
-    who: &[u64; 33],
-    x: &[u8; 64],
-    next: &mut [u8; 33],
-    entered: &mut [u16; 33],
-    unpriced: u64,
-    spare: u64,
-    later: u64,
-    k: usize,
-    wish: usize,
-) -> u64
-    requires { Start who.now x.now spare later k × (wish < 64) × (next.old ≡ replicate 33 0) × (entered.old ≡ replicate 33 0) }
-    ensures { (s : Start who.now x.now spare later k)
-        → ((is_set result wish ≡ true) ⊎ Expanded s.w x.now unpriced spare k s.n result result)
-        × Tree s.w x.now s.opens unpriced spare (get_or x.now k 0) k s.n next.new entered.new result 65536 }
-{
-    let a = x[k] as usize;
-    let mut done: u64 = 0;
-    let mut seen = sets::with_bidder(0, a + 1);
-    let mut left = later;
-    let mut turn: usize = 1;
-    while done != seen {
-        let q = sets::lowest_bidder(sets::other_bidders(seen, done)) - 1;
-        let pooled = pool(next, entered, seen, q, unpriced, spare, turn);
-        let movers = sets::common_bidders(who[q], left);
-        seen = sweep(x, next, entered, pooled, q, turn, movers);
-        left = sets::other_bidders(left, movers);
-        done = settled(sets::with_bidder(done, q + 1), seen, wish);
-        turn += 1;
-    }
-    seen
+// The places that a search has seen. Of each it has the place to which the way goes on, and the time at which it was seen: 128 times the
+// turn, and the number of the bidder who moves.
+#[derive(Drop)]
+struct Ways {
+    next: [u8; 33],
+    entered: [u16; 33],
+    seen: u64,
 }
 
-// Bidder k takes place i, and the bidders on the way from there to a, which it leaves, move up.
-fn shift(
-    x: &mut [u8; 64],
-    next: &[u8; 33],
-    entered: &[u16; 33],
-    spare: u64,
-    a: usize,
-    i: usize,
-    k: usize,
-)
-    requires { Way x.old next.now entered.now spare a i k }
-    ensures { (length x.new ≡ 64) × ((s : Way x.old next.now entered.now spare a i k)
-        → Completes s.n s.turn.sets s.turn.nulls s.above (s.turn.ys ++ (i ∷ [])) x.new) }
-{
-    give(x, k + 1, i);
-    let mut p = goes_on(spare, i);
-    while p != a {
-        let b = entered[p] as usize % 128;
-        let q = next[p] as usize;
-        give(x, b, q);
-        p = goes_on(spare, q);
+impl Ways {
+    // Stays: the bound of a place is asked of each step, as of an index. Places are made of trailing zeros and of lent bytes, each by its own proof.
+    // Place p is seen, unless it is already: the way goes on from there to q, at time t.
+    fn enter(&mut self, p: usize, q: usize, t: usize)
+        requires { (p < 33) × (q < 33) × (t < 65536) }
+        ensures { (is_set self.new.seen p ≡ true) × Grows q (λ o v. (o ≡ p) × (v ≡ t)) self.old self.new }
+    {
+        if self.seen.has(p + 1) {
+            return;
+        }
+        self.next[p] = q as u8;
+        self.entered[p] = t as u16;
+        self.seen = self.seen.with(p + 1);
+    }
+
+    // The step of each mover: from what it has to q, which it demands.
+    fn sweep(&mut self, x: &[u8; 64], q: usize, turn: usize, movers: u64)
+        requires { (q < 33) × (turn ≤ 65) × ((b : ℕ) → is_set movers b ≡ true → get_or x.now b 0 < 33) }
+        ensures { ((b : ℕ) → is_set movers b ≡ true → is_set self.new.seen (get_or x.now b 0) ≡ true)
+            × Grows q (Moves x.now movers turn) self.old self.new }
+    {
+        let mut rest = movers;
+        while rest != 0 {
+            let b = rest.lowest();
+            let p = usize::from(x[b - 1]);
+            self.enter(p, q, 128 * turn + b);
+            rest = rest.without(b);
+        }
+    }
+
+    // The step of nobody: from null to q, if q may be left. With null the items that nobody has are seen.
+    fn pool(&mut self, q: usize, unpriced: u64, spare: u64, turn: usize)
+        requires { (q < 33) × (turn ≤ 65) }
+        ensures { Pools q unpriced spare (128 * turn) self.old self.new }
+    {
+        if !unpriced.has(q + 1) {
+            return;
+        }
+        self.enter(0, q, 128 * turn);
+        self.seen |= spare;
+    }
+
+    // Bidder k takes place i, and the bidders on the way from there to what it leaves move up.
+    fn shift(&self, x: &mut [u8; 64], spare: u64, i: usize, k: usize)
+        requires { Way x.old self.now.next self.now.entered spare (get_or x.old k 0) i k }
+        ensures { (s : Way x.old self.now.next self.now.entered spare (get_or x.old k 0) i k)
+            → Completes s.n s.turn.sets s.turn.nulls s.above (s.turn.ys ++ (i ∷ [])) x.new }
+    {
+        let a = usize::from(x[k]);
+        give(x, k + 1, i);
+        let mut p = goes_on(spare, i);
+        while p != a {
+            let b = usize::from(self.entered[p]) % 128;
+            let q = usize::from(self.next[p]);
+            give(x, b, q);
+            p = goes_on(spare, q);
+        }
     }
 }
 
-// The next bidder's option, where its wish, the lowest open item that it demands, is another than the place that it has.
-fn better(
-    w: &[u64; 64],
-    who: &[u64; 33],
-    x: &mut [u8; 64],
+// How things stand at the turn of bidder k of n: each bidder's demand as a set of places, who demands each place, the items of price above
+// the floor, the places that are open, and the bidders after k.
+#[derive(Drop)]
+struct Standing {
+    demands: [u64; 64],
+    who: [u64; 33],
     above: u32,
     opens: u64,
     later: u64,
     k: usize,
     n: usize,
-    wish: usize,
-) -> usize
-    requires { Turn w.now who.now x.old above opens later k n × FirstOf opens (get_or w.now k 0) wish }
-    ensures { (result ≤ 32) × (length x.new ≡ 64) × ((t : Turn w.now who.now x.old above opens later k n)
-        → (result ≡ next_option n t.sets t.nulls above t.ys) × Completes n t.sets t.nulls above (t.ys ++ (result ∷ [])) x.new) }
-{
-    let a = x[k] as usize;
-    let unpriced = sets::other_bidders(opens, places_of(above, false));
-    let spare = sets::with_bidder(sets::other_bidders(opens, held(x, k, n)), 1);
-    let mut next = [0u8; 33];
-    let mut entered = [0u16; 33];
-    let seen = search(
-        who,
-        x,
-        &mut next,
-        &mut entered,
-        unpriced,
-        spare,
-        later,
-        k,
-        wish,
-    );
-    let i = first_item(sets::common_bidders(seen, w[k]));
-    shift(x, &next, &entered, spare, a, i, k);
-    i
 }
 
-// The next bidder's option: the lowest open item that it demands, if it has that, and else the lowest from which what it has can be reached.
-fn option(
-    w: &[u64; 64],
-    who: &[u64; 33],
-    x: &mut [u8; 64],
-    above: u32,
-    opens: u64,
-    later: u64,
-    k: usize,
-    n: usize,
-) -> usize
-    requires { Turn w.now who.now x.old above opens later k n }
-    ensures { (result ≤ 32) × (length x.new ≡ 64) × ((t : Turn w.now who.now x.old above opens later k n)
-        → (result ≡ next_option n t.sets t.nulls above t.ys) × Completes n t.sets t.nulls above (t.ys ++ (result ∷ [])) x.new) }
-{
-    let a = x[k] as usize;
-    let wish = first_item(sets::common_bidders(opens, w[k]));
-    if wish == a {
-        return a;
+impl Standing {
+    // The places from which what bidder k has can be reached, with a way from each: all of them, or so many that the wish is among them. Each
+    // place is expanded once, and each later bidder takes at most one step.
+    fn search(&self, x: &[u8; 64], unpriced: u64, spare: u64, wish: usize) -> Ways
+        requires { Start self.now.who x.now spare self.now.later self.now.k × (wish < 64) }
+        ensures { (s : Start self.now.who x.now spare self.now.later self.now.k)
+            → ((is_set result.seen wish ≡ true) ⊎ Expanded s.w x.now unpriced spare self.now.k s.n result.seen result.seen)
+            × Tree s.w x.now s.opens unpriced spare (get_or x.now self.now.k 0) self.now.k s.n result.next result.entered result.seen 65536 }
+    {
+        let a = usize::from(x[self.k]);
+        let mut ways = Ways {
+            next: [0; 33],
+            entered: [0; 33],
+            seen: u64::only(a + 1),
+        };
+        let mut done: u64 = 0;
+        let mut left = self.later;
+        let mut turn: usize = 1;
+        while done != ways.seen {
+            let q = ways.seen.but(done).lowest() - 1;
+            ways.pool(q, unpriced, spare, turn);
+            let movers = self.who[q].common(left);
+            ways.sweep(x, q, turn, movers);
+            left = left.but(movers);
+            done = settled(done.with(q + 1), ways.seen, wish);
+            turn += 1;
+        }
+        ways
     }
-    better(w, who, x, above, opens, later, k, n, wish)
+
+    // The next bidder's option, where its wish, the lowest open item that it demands, is another than the place that it has.
+    fn better(&self, x: &mut [u8; 64], wish: usize) -> usize
+        requires { AtTurn self.now x.old × FirstOf self.now.opens (get_or self.now.demands self.now.k 0) wish }
+        ensures { Chosen self.now x.old result x.new }
+    {
+        let unpriced = self.opens.but(places_of(self.above, false));
+        let spare = self.opens.but(held(x, self.k, self.n)).with(1);
+        let ways = self.search(x, unpriced, spare, wish);
+        let i = first_item(ways.seen.common(self.demands[self.k]));
+        ways.shift(x, spare, i, self.k);
+        i
+    }
+
+    // The next bidder's option: the lowest open item that it demands, if it has that, and else the lowest from which what it has can be reached.
+    fn option(&self, x: &mut [u8; 64]) -> usize
+        requires { AtTurn self.now x.old }
+        ensures { Chosen self.now x.old result x.new }
+    {
+        let a = usize::from(x[self.k]);
+        let wish = first_item(self.opens.common(self.demands[self.k]));
+        if wish == a {
+            return a;
+        }
+        self.better(x, wish)
+    }
 }
 
 // Null and 32 items.
@@ -331,22 +272,26 @@ const PLACES: u64 = 0x1_ffff_ffff;
 
 // The options of the bidders one after the other, from a complete assignment. An item that a bidder has is open no more; null always is.
 fn options(sets: &[u32; 64], nulls: u64, above: u32, n: usize, start: [u8; 64]) -> [u8; 64]
-    requires { (n ≤ 64) × (length start ≡ 64) × Completes n sets.now nulls above [] start }
+    requires { (n ≤ 64) × Completes n sets.now nulls above [] start }
     ensures { result ≡ places 64 (assignment 32 above (reports n sets.now nulls)) }
 {
-    let w = demands(sets, nulls);
-    let who = wanted_by(sets, nulls, n);
+    let mut at = Standing {
+        demands: demands(sets, nulls),
+        who: wanted_by(sets, nulls, n),
+        above,
+        opens: PLACES,
+        later: u64::first(n),
+        k: 0,
+        n,
+    };
     let mut x = start;
     let mut out = [0u8; 64];
-    let mut opens = PLACES;
-    let mut later = sets::first_bidders(n);
-    let mut b: usize = 0;
-    while b < n {
-        later = sets::without_bidder(later, b + 1);
-        let i = option(&w, &who, &mut x, above, opens, later, b, n);
+    for b in 0..n {
+        at.k = b;
+        at.later = at.later.without(b + 1);
+        let i = at.option(&mut x);
         out[b] = i as u8;
-        opens = sets::with_bidder(sets::without_bidder(opens, i + 1), 1);
-        b += 1;
+        at.opens = at.opens.without(i + 1).with(1);
     }
     out
 }
@@ -357,11 +302,7 @@ fn reported(sets: &[u32; 64], n: usize) -> [u32; 64]
     ensures { ((b : ℕ) → b < n → get_or result b 0 ≡ get_or sets.now b 0) × ((b : ℕ) → n ≤ b → get_or result b 0 ≡ 0) }
 {
     let mut own = [0u32; 64];
-    let mut b: usize = 0;
-    while b < n {
-        own[b] = sets[b];
-        b += 1;
-    }
+    own[..n].copy_from_slice(&sets[..n]);
     own
 }
 
@@ -371,7 +312,7 @@ fn complete(sets: &[u32; 64], nulls: u64, above: u32, n: usize) -> matching::Cov
     ensures { Complete n sets.now nulls above result.found result.holder }
 {
     let own = reported(sets, n);
-    let must = sets::other_bidders(sets::first_bidders(n), nulls);
+    let must = u64::first(n).but(nulls);
     matching::cover(&own, must, above)
 }
 
@@ -387,6 +328,5 @@ pub fn first(sets: &[u32; 64], nulls: u64, above: u32, bidders: usize) -> [u8; 6
     if !c.found {
         return [0; 64];
     }
-    let holder = c.holder;
-    options(sets, nulls, above, bidders, seats(&holder))
+    options(sets, nulls, above, bidders, seats(&c.holder))
 }

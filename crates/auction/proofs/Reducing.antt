@@ -4,9 +4,8 @@ use mathlib.Core.Path.{◌≡◌, refl, sym, ap, ap₂, ◌∙◌, subst}
 use mathlib.Core.List.{List}
 use mathlib.Core.Logic.{◌⊎◌, inl, inr}
 use native.Mathlib.Omega.{arith}
-use lib.ListN.{length, get_or, set, take, length-set}
-use lib.Seq.{get_or-set_same, get_or-set_other, length-take-le, get_or-take}
-use borrow.Author.Count.{below_none, below_more}
+use lib.ListN.{length, get_or, take}
+use lib.Seq.{length-take-le, get_or-take}
 use Rattle.sets.specs.Lists.{places}
 use Rattle.sets.proofs.Counting.{below_suc}
 use Rattle.sets.proofs.Lists.{tabulate-same, is-tabulate}
@@ -30,23 +29,16 @@ use Rattle.demands.specs.Demands.{surplus_of}
 use Rattle.demands.proofs.Surplus.{line-surplus}
 use Rattle.demands.proofs.Demanding.{few}
 use Rattle.auction.specs.Reduced.{ReducedTo, ReducedLines}
+use Rattle.auction.specs.declared.Accepted.{Accepted}
 
--- ---- one line
+-- ---- the table as it is filled, line after line
 
-module _ (line : List ℕ) (top at : ℕ) (before : List ℕ) where
-  pub line-none : length before ≡ 2048 → ReducedTo line top at 0 before before
-  line-none e = record { long = e; done = below_none _; rest = λ p l. refl }
+pub accepted-fit : (a : Accepted) → Fit a.items a.bidders a.bids.now
+accepted-fit a = bids-fit (fine a.items a.bidders a.start.now a.floors.now a.bids.now a.accepted)
 
-  pub line-more : (k : ℕ) (table : List ℕ) (v : ℕ) → at + k < 2048 → v ≡ get_or line k 0 - top → ReducedTo line top at k before table
-      → ReducedTo line top at (k + 1) before (set table (at + k) v)
-  line-more k table v l e t =
-      record {
-        long = length-set table (at + k) v ∙ t.long;
-        done = below_more _ _ (λ c lc. get_or-set_other table (at + k) (at + c) v 0 (λ q. omega arith) ∙ t.done c lc) (get_or-set_same table (at + k) v 0 (omega (arith, l, t.long)) ∙ e);
-        rest = λ p h. get_or-set_other table (at + k) p v 0 (λ q. omega arith) ∙ t.rest p h;
-      }
-
--- ---- all lines
+-- the table has room for them
+pub bids_room : (a : Accepted) → length a.bids.now ≤ 2048
+bids_room a = let f = accepted-fit a in omega (arith, f.long, few a.items a.bidders f.max_items f.max_bidders)
 
 module _ {m n : ℕ} {bids : List ℕ} (f : Fit m n bids) (prices : List ℕ) where
   most : n * m ≤ 2048
@@ -129,13 +121,20 @@ module _ (m n : ℕ) (start floors bids : List ℕ) (z : sealed_above_refusal m 
   floors-accepted = limits-accepted m n floors floors bids fits.bids-long (from-floors sheet within refl)
 
   module _ (first table : List ℕ) (ef : first ≡ places 32 start) (long : length table ≡ 2048) (h : ReducedLines m first bids n table) where
-    pub rows-reduced : rows_of m n (take (n * m) table) ≡ reduced_bids m start (rows_of m n bids)
-    rows-reduced =
+    exact-rows : rows_of m n (take (n * m) table) ≡ reduced_bids m start (rows_of m n bids)
+    exact-rows =
         rows_are (bids-fit fits) first table long h
         ∙ same-reduced m first start (λ i. ap (λ (p : List ℕ). amount p i) ef ∙ places-amount m fits.max_items start fits.start-long i) (rows_of m n bids)
 
-    pub reduced-accepted : sealed_above_refusal m n floors floors (take (n * m) table) ≡ 0
-    reduced-accepted =
+    exact-accepted : sealed_above_refusal m n floors floors (take (n * m) table) ≡ 0
+    exact-accepted =
         limits-accepted m n floors floors (take (n * m) table) (less-long (bids-fit fits) first table long h)
-        (subst (λ (rows : List (List ℕ)). Limits (record { items = m; start = floors; floors = floors; bids = rows })) (sym rows-reduced)
+        (subst (λ (rows : List (List ℕ)). Limits (record { items = m; start = floors; floors = floors; bids = rows })) (sym exact-rows)
         (from-floors (reduced sheet) (reduced-limits sheet within) refl))
+
+    -- as many as there are bids
+    pub rows-reduced : rows_of m n (take (length bids) table) ≡ reduced_bids m start (rows_of m n bids)
+    rows-reduced = ap (λ (k : ℕ). rows_of m n (take k table)) fits.bids-long ∙ exact-rows
+
+    pub reduced-accepted : sealed_above_refusal m n floors floors (take (length bids) table) ≡ 0
+    reduced-accepted = subst (λ (k : ℕ). sealed_above_refusal m n floors floors (take k table) ≡ 0) (sym fits.bids-long) exact-accepted

@@ -30,7 +30,9 @@ use Rattle.bids.specs.Lent.{rows_of, sheet_above, sheet_of}
 use Rattle.bids.specs.Refusal.{sealed_above_refusal, sealed_refusal}
 use Rattle.bids.proofs.Limits.{accepted-within, without_floors}
 use Rattle.auction.specs.Sealed.{refused, named_at, closed, falling_closed, outcome, sealed_above_of, sealed_of, falling_first_of, Promised, PromisedFalling}
+use Rattle.auction.specs.Accepted as accepted
 use Rattle.auction.specs.declared.Closing.{Closing}
+use Rattle.auction.specs.declared.Accepted.{Accepted}
 use Rattle.auction.proofs.Settling.{ready, close-long, above_floors-wide}
 use Rattle.auction.proofs.FallingRounds.{same_close}
 
@@ -205,40 +207,44 @@ module _ (m n : ℕ) (floors bids q : List ℕ) (lm : m ≤ 32) (low-long : leng
 
 -- ---- the code's steps
 
--- names do not go by the starting prices
-named-any : (m n : ℕ) (start floors bids : List ℕ) (u k : ℕ) (q : List ℕ) → named_at (sheet_above m n q floors bids) u k q ≡ named_at (sheet_above m n start floors bids) u k q
+-- names do not go by the starting prices, and neither does whether they fit
+pub named-any : (m n : ℕ) (start floors bids : List ℕ) (u k : ℕ) (q : List ℕ) → named_at (sheet_above m n q floors bids) u k q ≡ named_at (sheet_above m n start floors bids) u k q
 unfolding sheet_above gains_at
 named-any m n start floors bids u k q = refl
 
--- what `named` answers to rounds and prices
-module _ (m n : ℕ) (start floors bids : List ℕ) (z : sealed_above_refusal m n start floors bids ≡ 0) (u k : ℕ) (p : List ℕ) (r : Closing)
-    (named : (q : List ℕ) → length q ≡ m → p ≡ places 32 q → FitsAt (sheet_above m n q floors bids) q (assignment_at (sheet_above m n q floors bids) q)
-    → r ≡ named_at (sheet_above m n q floors bids) u k q)
-    (ep : p ≡ places 32 (close (sheet_above m n start floors bids)).prices) where
+pub fits-any : (m n : ℕ) (start floors bids q : List ℕ) → FitsAt (sheet_above m n start floors bids) q (assignment_at (sheet_above m n start floors bids) q)
+    → FitsAt (sheet_above m n q floors bids) q (assignment_at (sheet_above m n q floors bids) q)
+unfolding sheet_above
+fits-any m n start floors bids q fitting = fitting
+
+-- what `named` answers to the rounds and prices of a close
+module _ (a : Accepted) (u k : ℕ) (p : List ℕ) (r : Closing)
+    (named : (q : List ℕ) → length q ≡ a.items → p ≡ places 32 q → FitsAt (accepted.sheet a) q (assignment_at (accepted.sheet a) q) → r ≡ named_at (accepted.sheet a) u k q)
+    (ep : p ≡ places 32 (close (accepted.sheet a)).prices) where
   abbrev s : Sheet
-  s = sheet_above m n start floors bids
+  s = accepted.sheet a
 
-  closing-is : r ≡ named_at (sheet_above m n start floors bids) u k (close (sheet_above m n start floors bids)).prices
-  closing-is = named (close s).prices long ep fitting ∙ named-any m n start floors bids u k (close s).prices
+  within : within_limits s ≡ true
+  within = (accepted-within a.items a.bidders a.start.now a.floors.now a.bids.now a.accepted).1
+
+  closing-is : r ≡ named_at s u k (close s).prices
+  closing-is = named (close s).prices long ep fitting
     where
-      within : within_limits (sheet_above m n start floors bids) ≡ true
-      within = (accepted-within m n start floors bids z).1
+      c : rule.Closing s
+      c = closing s within
 
-      c : rule.Closing (sheet_above m n start floors bids)
-      c = closing (sheet_above m n start floors bids) within
+      fitting : FitsAt s (close s).prices (assignment_at s (close s).prices)
+      fitting = subst (λ (t : State). FitsAt s t.prices (assignment_at s t.prices)) (sym c.close_is) c.fitting
 
-      fitting : FitsAt (sheet_above m n (close s).prices floors bids) (close s).prices (assignment_at (sheet_above m n (close s).prices floors bids) (close s).prices)
-      fitting = unfold sheet_above in subst (λ (t : State). FitsAt s t.prices (assignment_at s t.prices)) (sym c.close_is) c.fitting
+      long : length (close s).prices ≡ a.items
+      long = unfold sheet_above in close-long s (ready s within)
 
-      long : length (close (sheet_above m n start floors bids)).prices ≡ m
-      long = unfold sheet_above in close-long (sheet_above m n start floors bids) (ready (sheet_above m n start floors bids) within)
+  pub closed-is : u ≡ (close (accepted.sheet a)).ups → k ≡ (close (accepted.sheet a)).downs → r ≡ closed (accepted.sheet a)
+  unfolding closed
+  closed-is eu ek = closing-is ∙ ap₂ (λ (x y : ℕ). named_at s x y (close s).prices) eu ek
 
-  pub sealed-is : u ≡ (close (sheet_above m n start floors bids)).ups → k ≡ (close (sheet_above m n start floors bids)).downs → r ≡ sealed_above_of m n start floors bids
-  sealed-is eu ek = closing-is ∙ ap₂ (λ (x y : ℕ). named_at s x y (close s).prices) eu ek ∙ (unfold closed in above-closed m n start floors bids z)
-
-  pub falling_is : u ≡ (falling_close (sheet_above m n start floors bids)).ups → k ≡ (falling_close (sheet_above m n start floors bids)).downs
-      → r ≡ falling_first_of m n start floors bids
+  pub falling_is : u ≡ (falling_close (accepted.sheet a)).ups → k ≡ (falling_close (accepted.sheet a)).downs → r ≡ falling_closed (accepted.sheet a)
+  unfolding falling_closed
   falling_is eu ek =
       closing-is ∙ ap₂ (λ (x y : ℕ). named_at s x y (close s).prices) eu ek
-      ∙ ap (named_at s (falling_close s).ups (falling_close s).downs) (sym (same_close s (falling-closing s (accepted-within m n start floors bids z).1)))
-      ∙ (unfold falling_closed in falling-closed m n start floors bids z)
+      ∙ ap (named_at s (falling_close s).ups (falling_close s).downs) (sym (same_close s (falling-closing s within)))

@@ -1,2 +1,3 @@
 pub mod Sealed
 pub mod Reduced
+pub mod Accepted

@@ -12,18 +12,18 @@ ghost use Rattle.bench_exports.specs.Lent.{phase_of, phase_number, record_in, St
 
 use live::{Auction, Ended, Kind, Phase};
 
+// Stays: `Phase` and `u32` are both of other crates, so that no `From` between them can stand here, and `live` has no use for one.
 fn phase_of(number: u32) -> Phase
     ensures { result ≡ phase_of number }
 {
-    if number == 0 {
-        return Phase::Rising;
+    match number {
+        0 => Phase::Rising,
+        1 => Phase::Falling,
+        _ => Phase::Closed,
     }
-    if number == 1 {
-        return Phase::Falling;
-    }
-    Phase::Closed
 }
 
+// Stays: as `phase_of`, and likewise `end_number` below.
 fn phase_number(phase: Phase) -> u32
     ensures { result ≡ phase_number phase }
 {
@@ -34,7 +34,7 @@ fn phase_number(phase: Phase) -> u32
     }
 }
 
-// The record that stands in the lists.
+// The record that stands in the lists. Stays: lists are the C interface.
 fn record_in(
     numbers: &[u64; 4],
     prices: &[u16; 32],
@@ -44,19 +44,15 @@ fn record_in(
 ) -> Auction
     ensures { result ≡ record_in numbers.now prices.now floors.now sets.now rounds.now }
 {
-    let prices = *prices;
-    let floors = *floors;
-    let sets = *sets;
-    let phase = phase_of(rounds[2]);
     Auction {
         items: numbers[0] as usize,
         bidders: numbers[1] as usize,
-        prices,
-        floors,
-        sets,
+        prices: *prices,
+        floors: *floors,
+        sets: *sets,
         nulls: numbers[2],
         reported: numbers[3],
-        phase,
+        phase: phase_of(rounds[2]),
         raised: rounds[0],
         lowered: rounds[1],
     }
@@ -73,21 +69,20 @@ fn leave(
 )
     ensures { StandsIn auction numbers.new prices.new floors.new sets.new rounds.new }
 {
-    let next_prices = auction.prices;
-    let next_floors = auction.floors;
-    let next_sets = auction.sets;
-    let phase = auction.phase;
-    let coded = phase_number(phase);
     *numbers = [
         auction.items as u64,
         auction.bidders as u64,
         auction.nulls,
         auction.reported,
     ];
+    // Stays: no proof is made of an array field that is stored straight.
+    let next_prices = auction.prices;
+    let next_floors = auction.floors;
+    let next_sets = auction.sets;
     *prices = next_prices;
     *floors = next_floors;
     *sets = next_sets;
-    *rounds = [auction.raised, auction.lowered, coded];
+    *rounds = [auction.raised, auction.lowered, phase_number(auction.phase)];
 }
 
 // Opens an auction without floors: the number that turns it down, or 0, and the record beside it.
@@ -108,8 +103,7 @@ pub fn bench_open(
     ensures tables { tables.new ≡ filled_by (open_number items bidders start.now tables.old) items bidders tables.old }
 {
     let opened = live::open(items, bidders, start, tables);
-    let next = opened.next;
-    leave(next, numbers, prices, floors, sets, rounds);
+    leave(opened.next, numbers, prices, floors, sets, rounds);
     opened.number
 }
 
@@ -132,8 +126,7 @@ pub fn bench_open_above(
     ensures tables { tables.new ≡ filled_by (open_above_number items bidders start.now lowest.now tables.old) items bidders tables.old }
 {
     let opened = live::open_above(items, bidders, start, lowest, tables);
-    let next = opened.next;
-    leave(next, numbers, prices, floors, sets, rounds);
+    leave(opened.next, numbers, prices, floors, sets, rounds);
     opened.number
 }
 
@@ -155,8 +148,7 @@ pub fn bench_report(
 {
     let auction = record_in(numbers, prices, floors, sets, rounds);
     let reported = auction.report(bidder, null, set, tables);
-    let next = reported.next;
-    leave(next, numbers, prices, floors, sets, rounds);
+    leave(reported.next, numbers, prices, floors, sets, rounds);
     reported.number
 }
 
@@ -173,8 +165,7 @@ pub fn bench_clear(
         numbers.new prices.new floors.new sets.new rounds.new }
 {
     let cleared = record_in(numbers, prices, floors, sets, rounds).clear();
-    let next = cleared.next;
-    leave(next, numbers, prices, floors, sets, rounds);
+    leave(cleared.next, numbers, prices, floors, sets, rounds);
     cleared.number
 }
 
@@ -183,8 +174,7 @@ fn end_number(ended: Ended) -> u8
     ensures { result ≡ end_number_of (ending_of ended) }
 {
     match ended {
-        Ended::Moved(kind, set) => 0,
-        Ended::Closed => 0,
+        Ended::Moved(..) | Ended::Closed => 0,
         Ended::Refused(number) => number,
     }
 }
@@ -193,16 +183,11 @@ fn end_number(ended: Ended) -> u8
 fn put_move(ended: Ended, moved: &mut [u32; 2])
     ensures { moved.new ≡ move_in (ending_of ended) }
 {
-    match ended {
-        Ended::Moved(kind, set) => {
-            match kind {
-                Kind::Raised => *moved = [1, set],
-                Kind::Lowered => *moved = [2, set],
-            }
-        }
-        Ended::Closed => *moved = [0, 0],
-        Ended::Refused(number) => *moved = [0, 0],
-    }
+    *moved = match ended {
+        Ended::Moved(Kind::Raised, set) => [1, set],
+        Ended::Moved(Kind::Lowered, set) => [2, set],
+        Ended::Closed | Ended::Refused(_) => [0, 0],
+    };
 }
 
 // Ends the round: the number that turns it down, or 0.
@@ -222,11 +207,9 @@ pub fn bench_end(
     ensures tables { tables.new ≡ end_tables (record_in numbers.old prices.old floors.old sets.old rounds.old) tables.old }
 {
     let step = record_in(numbers, prices, floors, sets, rounds).end(tables);
-    let next = step.next;
-    let ended = step.ended;
-    leave(next, numbers, prices, floors, sets, rounds);
-    put_move(ended, moved);
-    end_number(ended)
+    leave(step.next, numbers, prices, floors, sets, rounds);
+    put_move(step.ended, moved);
+    end_number(step.ended)
 }
 
 // Reads the close: the number that turns it down, or 0 with the closing sheet at the front of `out`.

@@ -4,3 +4,4 @@ pub mod Limits
 pub mod Rows
 pub mod Showing
 pub mod Fitting
+pub mod Telling

@@ -3,18 +3,12 @@ use Prim.Native.Nat.{ℕ, ◌+◌, ◌*◌, ◌≤◌, ◌<◌}
 use mathlib.Core.Path.{◌≡◌, sym, ap}
 use mathlib.Core.Bool.{Bool, true, false, ◌&&◌, cond}
 use mathlib.Core.List.{List, []}
-use native.Mathlib.Omega.{arith}
-use native.Mathlib.Nat.{mul-le-mul}
 use lib.Dec.{leb}
 use lib.ListN.{length}
 use borrow.Author.Tests.{le-leb, lt-leb}
 use Rattle.sets.proofs.Counting.{and_both, and-right-false}
 use Rattle.bids.specs.Lent.{line_of}
 use Rattle.bids.specs.Line.{has_row, row_shown, row_start}
-
--- a number of 16 bits, and at most 64 columns: their product fits
-pub few-numbers : (m b : ℕ) → m ≤ 64 → b ≤ 65535 → b * m ≤ 4194240
-few-numbers m b lm lb = let most : b * m ≤ 65535 * 64 = mul-le-mul lb lm in omega arith
 
 module _ (m b : ℕ) (table : List ℕ) where
   -- no row: nothing is shown, at the front

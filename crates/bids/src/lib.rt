@@ -15,6 +15,8 @@ fn bid_count(items: usize, bidders: usize) -> usize
 
 // The number that turns a sheet with floors down, or 0: starting prices and floors, one for each item, and bids, bidder after bidder. Where no starting
 // price is above 4,095, a floor above 4,095 is above its starting price: 18 is one test.
+// Stays: a number, here and in `refusal` and `line_refusal`. Clauses and theorems say document 01's numbers, and C is given them.
+#[tactic(auto, using(crate::proofs::Telling::floors_told), unfolding(crate::proofs::Telling::telling))]
 pub fn refusal_above(
     items: usize,
     bidders: usize,
@@ -30,13 +32,7 @@ pub fn refusal_above(
     if sets::outside(64, bidders) {
         return 2;
     }
-    if start.len() != items {
-        return 3;
-    }
-    if floors.len() != items {
-        return 3;
-    }
-    if bids.len() != bid_count(items, bidders) {
+    if start.len() != items || floors.len() != items || bids.len() != bid_count(items, bidders) {
         return 3;
     }
     if prices::any_over(start) {
@@ -63,6 +59,7 @@ pub fn refusal(items: usize, bidders: usize, start: &[u16], bids: &[u16]) -> u8
 }
 
 // The number that turns down the asking for a bidder's line, or 0.
+#[tactic(auto, unfolding(crate::proofs::Telling::telling))]
 pub fn line_refusal(bids: &[u16], items: usize, bidders: usize, bidder: usize) -> u8
     ensures { result ≡ line_refusal items bidders bidder bids.now }
 {
@@ -82,13 +79,14 @@ pub fn line_refusal(bids: &[u16], items: usize, bidders: usize, bidder: usize) -
 }
 
 // Row b, counted from 0, of a table of numbers with at most 64 columns: that part itself, or one of length 0 where there is no such row.
+// Stays: an index, and not `get`, which does not promise where the part starts, as the clause here does.
 pub fn row(table: &[u16], columns: usize, b: u16) -> &[u16]
     ensures { (result.now ≡ row_shown columns b table.now) × starts_at (row_start columns b table.now) table.entry result }
 {
     if 64 < columns {
         return &table[..0];
     }
-    let start = (b as usize) * columns;
+    let start = usize::from(b) * columns;
     let end = start + columns;
     if table.len() < end {
         return &table[..0];

@@ -3,12 +3,14 @@ use Prim.Native.Nat.{ℕ, zero, suc, ◌*◌, ◌≤◌, ◌<◌, min}
 use mathlib.Core.Path.{◌≡◌, refl, sym, ap, ap₂, ◌∙◌, subst}
 use mathlib.Core.Bool.{Bool, true, false, ◌||◌, not, cond, true≢false}
 use mathlib.Core.List.{List, [], ◌++◌}
-use mathlib.Core.Option.{Option, none, some, get_or}
+use Rattle.std.specs.Prelude.{Option, None, Some, unwrap_or, is_some}
 use native.Mathlib.Omega.{arith}
 use lib.Dec.{leb, ltb, eqb}
-use lib.ListN.{length, take, drop, replicate}
+use lib.ListN.{length, take, drop, replicate, length-append}
 use lib.IntN.{ℤ}
 use lib.Seq.{length-sets, length-take-le}
+use Rattle.std.proofs.Common.{append_assoc}
+use Rattle.std.proofs.lemmas.List.{drop-append-le, take-append-drop}
 use borrow.Author.Tests.{lt-ltb, le-ltb, eq-eqb, ne_eqb, not-false}
 use Rattle.rule.specs.Round.{Round, raised, lowered, closed}
 use Rattle.rule.proofs.Refusal.{none as first_none}
@@ -25,7 +27,7 @@ use Rattle.live.specs.declared.Reply.{Reply}
 use Rattle.live.proofs.Formed.{formed}
 use Rattle.console.specs.Orders.{starts, alone, amounts_at, amounts_of, starts_of, floors_of, opening, reporting, order_of}
 use Rattle.console.specs.Answers.{Said, Told, beside, opens, replies, ends, reads, lent, keeps, fills, told_by, told}
-use Rattle.console.specs.Steps.{longest_answer, held_numbers, is_read, Puts, told_to, Answers}
+use Rattle.console.specs.Steps.{longest_answer, held_numbers, Puts, told_to, Answers}
 use Rattle.console.specs.declared.Answered.{Answered}
 use Rattle.console.specs.declared.Order.{Order}
 use Rattle.console.specs.declared.Order.TheVariants.{Open, OpenAbove, Report, End, Clear, Read, Unknown}
@@ -61,6 +63,29 @@ module _ (r : Auction) (ts : List ℤ) (line out : List ℕ) where
   with-room after left a long l =
       subst (λ (t : Told). Answers t out after left a)
       (sym (by-test false (ap₂ (λ (x y : Bool). not x || y) (eq-eqb (length ts) held_numbers long) (le-ltb (length out) longest_answer l))))
+
+  -- the front of the lent bytes was answered to, and the others were left
+  pub in-front : (k : ℕ) (front after : List ℕ) (left : List ℤ) (t : Told) (a : Answered) → front ≡ take k out → k ≤ length out → length after ≡ k
+      → Answers t front after left a → Answers t out (after ++ drop k out) left a
+  unfolding written_to
+  in-front k front after left t a e l la p =
+      record {
+        next = p.next;
+        counted = p.counted;
+        written =
+            ap (λ (xs : List ℕ). xs ++ drop k out) (p.written ∙ ap (λ (xs : List ℕ). t.bytes ++ drop (length t.bytes) xs) e)
+            ∙ append_assoc t.bytes (drop (length t.bytes) (take k out)) (drop k out)
+            ∙ ap (λ (xs : List ℕ). t.bytes ++ xs) (sym (drop-append-le (length t.bytes) (take k out) (drop k out) short) ∙ ap (drop (length t.bytes)) (take-append-drop k out));
+        tables = p.tables;
+        within = inside;
+        part = sym (length-take-le a.length (after ++ drop k out) inside);
+      }
+    where
+      short : length t.bytes ≤ length (take k out)
+      short = omega (arith, p.counted, p.within, la, length-take-le k out l)
+
+      inside : a.length ≤ length (after ++ drop k out)
+      inside = omega (arith, p.within, length-append after (drop k out))
 
   -- what was put, with the order's answer by its name
   pub answers : (after : List ℕ) (left : List ℤ) (a : Answered) (t : Said) → longest_answer ≤ length out → told r ts line ≡ beside left t → Puts t out after a
@@ -166,20 +191,20 @@ is_open Read = false
 is_open Unknown = false
 
 no-opening : (order : ℕ → ℕ → Order) (o p : Option ℕ)
-    → is_open (get_or (o >>= λ m. p >>= λ n. none >>= λ (s : List ℕ). some (order m n)) Unknown) ≡ false
-no-opening order none p = refl
-no-opening order (some m) none = refl
-no-opening order (some m) (some n) = refl
+    → is_open (unwrap_or (o >>= λ m. p >>= λ n. None >>= λ (s : List ℕ). Some (order m n)) Unknown) ≡ false
+no-opening order None p = refl
+no-opening order (Some m) None = refl
+no-opening order (Some m) (Some n) = refl
 
 no-report : (b : Bool) (o p q : Option ℕ)
-    → is_open (get_or (cond b (o >>= λ b. p >>= λ x. q >>= λ s. cond (leb x 1) (some (Report b (eqb x 1) s)) none) none) Unknown) ≡ false
+    → is_open (unwrap_or (cond b (o >>= λ b. p >>= λ x. q >>= λ s. cond (leb x 1) (Some (Report b (eqb x 1) s)) None) None) Unknown) ≡ false
 no-report false o p q = refl
-no-report true none p q = refl
-no-report true (some b) none q = refl
-no-report true (some b) (some x) none = refl
-no-report true (some b) (some x) (some s) = go (leb x 1)
+no-report true None p q = refl
+no-report true (Some b) None q = refl
+no-report true (Some b) (Some x) None = refl
+no-report true (Some b) (Some x) (Some s) = go (leb x 1)
   where
-    go : (t : Bool) → is_open (get_or (cond t (some (Report b (eqb x 1) s)) none) Unknown) ≡ false
+    go : (t : Bool) → is_open (unwrap_or (cond t (Some (Report b (eqb x 1) s)) None) Unknown) ≡ false
     go true = refl
     go false = refl
 
@@ -193,20 +218,20 @@ no-letter false false false false true f x y z hx hy hz = refl
 no-letter false false false false false true x y z hx hy hz = refl
 no-letter false false false false false false x y z hx hy hz = refl
 
-not-open : (line : List ℕ) → is_read (amounts_at line) ≡ false → is_open (order_of line) ≡ false
+not-open : (line : List ℕ) → is_some (amounts_at line) ≡ false → is_open (order_of line) ≡ false
 unfolding order_of reporting
 not-open line e =
     no-letter (starts 111 line) (starts 102 line) (starts 114 line) (alone 101 line) (alone 99 line) (alone 115 line) _ _ _
     (opens_not Open) (opens_not OpenAbove)
     (no-report (eqb (length line) 13) (number_at 2 line 1) (number_at 2 line 3) (number_at 8 line 5))
   where
-    opens_not : (order : ℕ → ℕ → Order) → is_open (get_or (opening order line) Unknown) ≡ false
+    opens_not : (order : ℕ → ℕ → Order) → is_open (unwrap_or (opening order line) Unknown) ≡ false
     opens_not order = unfold opening in rw (not-read (amounts_at line) e) (no-opening order (number_at 2 line 1) (number_at 2 line 3))
 
-pub open-amounts : (line : List ℕ) (o p : Order) → o ≡ order_of line → o ≡ p → is_open p ≡ true → is_read (amounts_at line) ≡ true
-open-amounts line o p e q h = go (is_read (amounts_at line)) refl
+pub open-amounts : (line : List ℕ) (o p : Order) → o ≡ order_of line → o ≡ p → is_open p ≡ true → is_some (amounts_at line) ≡ true
+open-amounts line o p e q h = go (is_some (amounts_at line)) refl
   where
-    go : (b : Bool) → is_read (amounts_at line) ≡ b → is_read (amounts_at line) ≡ true
+    go : (b : Bool) → is_some (amounts_at line) ≡ b → is_some (amounts_at line) ≡ true
     go true f = f
     go false f = absurd (true≢false (sym h ∙ sym (ap is_open (sym e ∙ q)) ∙ not-open line f))
 

@@ -1,5 +1,5 @@
 -- An opening with a wrong count of starting prices or floors is turned down whatever they are, so the first 65 amounts are enough. Assumes nothing.
-use Prim.Native.Nat.{ℕ, suc, ◌-◌, ◌≤◌, ◌<◌, min}
+use Prim.Native.Nat.{ℕ, suc, ◌≤◌, ◌<◌, min}
 use mathlib.Core.Path.{◌≡◌, refl, sym, ap, ◌∙◌}
 use mathlib.Core.Bool.{Bool, true, false, false≢true}
 use mathlib.Core.List.{List}
@@ -113,6 +113,3 @@ split_rest m xs s q = go (lt-or-le m (length xs))
     go : (m < length xs) ⊎ (length xs ≤ m) → drop s xs ≡ drop m xs
     go (inl l) = let h : m ≤ length xs = omega arith in ap (λ (j : ℕ). drop j xs) (q ∙ min-eq_left h)
     go (inr l) = ap (λ (j : ℕ). drop j xs) (q ∙ min-eq_right l) ∙ drop-length xs ∙ sym (drop_of_length-le xs {i = m} l)
-
-pub split-floors : (m : ℕ) (xs : List ℕ) (s : ℕ) → s ≡ min m (length xs) → take (length xs - s) (drop s xs) ≡ drop m xs
-split-floors m xs s q = take_all (length xs - s) (drop s xs) (omega (arith, length-drop s xs)) ∙ split_rest m xs s q

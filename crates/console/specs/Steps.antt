@@ -1,6 +1,5 @@
 -- What the console's functions answer. Assumes nothing: these are definitions.
 use Rattle.std.specs.Prelude.{ℕ, ◌+◌, ◌*◌, ◌≤◌, ◌≡◌, Bool, true, false, ◌||◌, not, cond, List, [], ltb, eqb, length, take, ℤ}
-use Rattle.std.proofs.Math.Option.{Option, none, some}
 use Rattle.std.proofs.lemmas.List.Edits.{sets}
 use Rattle.rule.specs.Refusal.{most_live_bidders}
 use Rattle.lines.specs.Lines.{written_to}
@@ -9,11 +8,6 @@ use Rattle.console.specs.Answers.{Said, longest_sheet, Told, told}
 use Rattle.console.specs.declared.Answered.{Answered}
 use Rattle.console.specs.declared.Order.{Order}
 use Rattle.console.specs.declared.Order.TheVariants.{Open, OpenAbove, End, Clear, Read, Unknown}
-
--- something was read
-abbrev pub is_read : {A : Type 0} → Option A → Bool
-is_read none = false
-is_read (some a) = true
 
 -- an opening, with floors or without
 abbrev pub open_by : (above : Bool) → ℕ → ℕ → Order

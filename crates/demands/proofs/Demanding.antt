@@ -54,11 +54,6 @@ complete-is m n long c =
     and_both (leb m 32 && leb n 64) (eqb long (n * m)) (and_both (leb m 32) (leb n 64) (le-leb m 32 c.max_items) (le-leb n 64 c.max_bidders))
     (eq-eqb long (n * m) c.exact)
 
--- by the code's tests
-pub by_tests : (m n long : ℕ) (a b : Bool) → leb m 32 ≡ a → leb n 64 ≡ b → a && b && eqb long (n * m) ≡ complete m n long
-unfolding complete
-by_tests m n long a b ea eb = ap₂ (λ (x y : Bool). x && y && eqb long (n * m)) (sym ea) (sym eb)
-
 -- ---- held as they came
 
 -- a bidder's item set in the list of all

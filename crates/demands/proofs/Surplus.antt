@@ -8,7 +8,7 @@ use native.Mathlib.Decide.{ℕ_discrete}
 use native.Mathlib.Numerals.{add-one}
 use lib.Dec.{ltb, eqb}
 use lib.ListN.{length, get_or}
-use borrow.Author.Tests.{eq-eqb, ne_eqb, le-leb, lt-leb}
+use borrow.Author.Tests.{eq-eqb, ne_eqb, le-leb}
 use Rattle.sets.proofs.Counting.{is_false}
 use Rattle.rule.specs.Sheet.{amount}
 use Rattle.rule.specs.Demand.{best, surplus, demand}
@@ -49,13 +49,8 @@ module _ (m : ℕ) (p b : List ℕ) (x : ℕ) (e : x ≡ surplus m p b) where
       go (yes q) = eq-eqb x 0 q ∙ sym (is-best 0 (omega (arith, q)))
       go (no ne) = ne_eqb x 0 ne ∙ sym (is_false (best m p b 0) (λ h. ne (let w = best_is 0 (omega arith) h in omega (arith, w))))
 
--- ---- a line of any length
+-- ---- a line as the code takes it
 
-module _ (p b : List ℕ) where
-  pub line-surplus : length b ≤ 32 → surplus (length b) p b ≡ surplus_of p b
-  unfolding surplus_of
-  line-surplus l = ap (λ (t : Bool). cond t (surplus (length b) p b) 0) (sym (le-leb (length b) 32 l))
-
-  pub long-surplus : 32 < length b → 0 ≡ surplus_of p b
-  unfolding surplus_of
-  long-surplus l = ap (λ (t : Bool). cond t (surplus (length b) p b) 0) (sym (lt-leb (length b) 32 l))
+pub line-surplus : (p b : List ℕ) → length b ≤ 32 → surplus (length b) p b ≡ surplus_of p b
+unfolding surplus_of
+line-surplus p b l = ap (λ (t : Bool). cond t (surplus (length b) p b) 0) (sym (le-leb (length b) 32 l))

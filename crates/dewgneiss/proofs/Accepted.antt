@@ -25,6 +25,9 @@ no_number why true e = absurd (go (eqb why 1 || eqb why 2) refl e)
     go true q z = not-both true refl (sym q ∙ ap (λ (x : ℕ). eqb x 1 || eqb x 2) z)
     go false q z = omega arith
 
+pub no_refusal : (why : ℕ) (u : Bool) → with_lengths why u ≡ 0 → why ≡ 0
+no_refusal why u e = (no_number why u e).0
+
 pub record Accepted (m n : ℕ) (rounds prices options gains : List ℕ) : Type 0 where
   pub two : length rounds ≡ 2
   pub as_items : length prices ≡ m
@@ -42,3 +45,9 @@ accepted m n rounds prices options gains u =
       as-bidders = exact-is options n (or_right_false (bad_length rounds 2 || bad_length prices m) (bad_length options n) w);
       gain-each = exact-is gains n (or_right_false (bad_length rounds 2 || bad_length prices m || bad_length options n) (bad_length gains n) u);
     }
+
+-- and so where the call itself is answered 0
+pub lendable : {m n : ℕ} {rounds prices options gains : List ℕ} {why w : ℕ} {u : Bool} → w ≡ with_lengths why u → u ≡ unfit m n rounds prices options gains → w ≡ 0
+    → (why ≡ 0) × Accepted m n rounds prices options gains
+lendable {m = m} {n = n} {rounds = rounds} {prices = prices} {options = options} {gains = gains} {why = why} {u = u} ew eu z =
+    let none = no_number why u (sym ew ∙ z) in (none.0, accepted m n rounds prices options gains (sym eu ∙ none.1))

@@ -4,4 +4,3 @@ pub mod Lent
 pub mod Accepted
 pub mod Results
 pub mod Back
-pub mod Asking

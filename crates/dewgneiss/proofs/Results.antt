@@ -2,8 +2,7 @@
 use Prim.Native.Nat.{ℕ, zero, suc, ◌*◌, ◌≤◌}
 use mathlib.Core.Path.{◌≡◌, refl, sym, ap, ◌∙◌, subst}
 use mathlib.Core.List.{List, [], ◌∷◌}
-use native.Mathlib.Omega.{arith}
-use lib.ListN.{length, set, replicate}
+use lib.ListN.{replicate}
 use Rattle.sets.specs.Lists.{places}
 use Rattle.rule.specs.Refusal.{bad_items, bad_bidders, bad_length, any_over, bad_floors}
 use Rattle.bids.specs.Refusal.{sealed_refusal, sealed_above_refusal}
@@ -14,13 +13,6 @@ use Rattle.sheet.specs.Close.{by_number}
 use Rattle.auction.specs.declared.Closing.{Closing}
 use Rattle.dewgneiss.specs.Lent.{unfit, lent_refusal, lent_above_refusal, with_lengths}
 use Rattle.dewgneiss.proofs.Lent.{in_order, in-order-above}
-
--- both of two places are stored to
-pub both : (xs : List ℕ) (a b : ℕ) → length xs ≡ 2 → set (set xs 0 a) 1 b ≡ a ∷ b ∷ []
-both [] a b e = absurd (omega arith)
-both (x ∷ []) a b e = absurd (omega arith)
-both (x ∷ y ∷ []) a b e = refl
-both (x ∷ y ∷ z ∷ xs) a b e = absurd (omega arith)
 
 -- the number of the call, and the counts of an auction that is not turned down
 pub lent-sealed : (m n : ℕ) (start bids rounds prices options gains : List ℕ)

@@ -1,4 +1,5 @@
 // The sealed auction, the sheets and the tables on lent memory. `dewgneiss_c` exports these functions for Rust or C to link.
+// Stays: `as` for `usize`, which has no `From<u32>`.
 #![tactic(auto)]
 
 pub mod tables; // tables.rt: one bidder's table of differences
@@ -11,33 +12,8 @@ ghost use Rattle.sheet.specs.Close.{sheet_refusal, closed_to, by_number};
 ghost use Rattle.reasons.specs.Sheets.{answer_of};
 ghost use Rattle.dewgneiss.specs.Lent.{unfit, lent_refusal, lent_above_refusal, with_lengths};
 
-// Copies the first amounts, prices or gains, as many as there are places.
-fn put_amounts(out: &mut [u16], amounts: &[u16])
-    requires { length out.old ≤ length amounts.now }
-    ensures { out.new ≡ places (length out.old) amounts.now }
-{
-    let n = out.len();
-    let mut i: usize = 0;
-    while i < n {
-        out[i] = amounts[i];
-        i += 1;
-    }
-}
-
-// Copies the first bidders' options.
-fn put_options(out: &mut [u8], options: &[u8; 64])
-    requires { length out.old ≤ 64 }
-    ensures { out.new ≡ places (length out.old) options.now }
-{
-    let n = out.len();
-    let mut b: usize = 0;
-    while b < n {
-        out[b] = options[b];
-        b += 1;
-    }
-}
-
 // Whether the lists lent for the results are not exact.
+#[tactic(auto, unfolding(crate::specs::Lent::unfit, rule::specs::Refusal::bad_length))]
 fn unfit(
     items: usize,
     bidders: usize,
@@ -48,70 +24,24 @@ fn unfit(
 ) -> bool
     ensures { result ≡ unfit items bidders rounds.now prices.now options.now gains.now }
 {
-    if rounds.len() != 2 {
-        return true;
-    }
-    if prices.len() != items {
-        return true;
-    }
-    if options.len() != bidders {
-        return true;
-    }
-    if gains.len() != bidders {
-        return true;
-    }
-    false
+    rounds.len() != 2 || prices.len() != items || options.len() != bidders || gains.len() != bidders
 }
 
 // The number of the auction itself, and 3 in its place.
+#[tactic(auto, unfolding(crate::specs::Lent::with_lengths))]
 fn with_lengths(why: u8, unfit: bool) -> u8
     ensures { result ≡ with_lengths why unfit }
 {
-    if why == 1 {
-        return why;
+    if why != 1 && why != 2 && unfit {
+        3
+    } else {
+        why
     }
-    if why == 2 {
-        return why;
-    }
-    if unfit {
-        return 3;
-    }
-    why
-}
-
-// The rounds raised and lowered.
-fn put_rounds(out: &mut [u32], raised: u32, lowered: u32)
-    requires { length out.old ≡ 2 }
-    ensures { out.new ≡ raised ∷ lowered ∷ [] }
-{
-    out[0] = raised;
-    out[1] = lowered;
-}
-
-// An outcome, into lists that fit it.
-fn put_closing(
-    c: auction::Closing,
-    rounds: &mut [u32],
-    prices: &mut [u16],
-    options: &mut [u8],
-    gains: &mut [u16],
-)
-    requires { (length rounds.old ≡ 2) × (length prices.old ≤ 32) × (length options.old ≤ 64) × (length gains.old ≤ 64) }
-    ensures { (rounds.new ≡ c.raised ∷ c.lowered ∷ [])
-        × (prices.new ≡ places (length prices.old) c.prices)
-        × (options.new ≡ places (length options.old) c.assignment)
-        × (gains.new ≡ places (length gains.old) c.gains) }
-{
-    let closing = c.prices;
-    let names = c.assignment;
-    let gained = c.gains;
-    put_rounds(rounds, c.raised, c.lowered);
-    put_amounts(prices, &closing);
-    put_options(options, &names);
-    put_amounts(gains, &gained);
 }
 
 // Lends an outcome back: answers 0 and leaves it in lists that fit it, or answers the number that turns the call down, and leaves them as they came.
+// Stays: a number and not a Result, and four lists side by side. So C lends them and is answered; a struct of the four would be taken apart again right here.
+#[tactic(auto, using(crate::proofs::Accepted::no_refusal, crate::proofs::Results::kept))]
 fn lend(
     c: auction::Closing,
     items: usize,
@@ -135,7 +65,10 @@ fn lend(
     if why != 0 {
         return why;
     }
-    put_closing(c, rounds, prices, options, gains);
+    rounds.copy_from_slice(&[c.raised, c.lowered]);
+    prices.copy_from_slice(&c.prices[..items]);
+    options.copy_from_slice(&c.assignment[..bidders]);
+    gains.copy_from_slice(&c.gains[..bidders]);
     0
 }
 

@@ -1,19 +1,13 @@
 -- What is written where there is room for it. Assumes nothing.
 use Prim.Native.Nat.{ℕ, ◌+◌, ◌≤◌}
-use mathlib.Core.Path.{◌≡◌, sym, ap, ◌∙◌}
-use mathlib.Core.Bool.{Bool, true, false, cond}
+use mathlib.Core.Path.{◌≡◌, ap, ◌∙◌}
+use mathlib.Core.Bool.{Bool, cond}
 use mathlib.Core.List.{List}
 use lib.Dec.{leb}
 use lib.ListN.{length}
 use lib.Seq.{sets}
 use borrow.Author.Tests.{le-leb}
 use Rattle.digits.specs.Digits.{hex}
-
-pub left : (b : Bool) (new old : List ℕ) → b ≡ false → (false ≡ b) × (old ≡ cond b new old)
-left b new old e = (sym e, sym (ap (λ (x : Bool). cond x new old) e))
-
-pub done : (b : Bool) (new old after : List ℕ) → b ≡ true → after ≡ new → (true ≡ b) × (after ≡ cond b new old)
-done b new old after e q = (sym e, q ∙ sym (ap (λ (x : Bool). cond x new old) e))
 
 -- a number that has room is written
 pub written : (out after : List ℕ) (at n x : ℕ) → at + n ≤ length out → after ≡ cond (leb (at + n) (length out)) (sets out at (hex n x)) out → after ≡ sets out at (hex n x)

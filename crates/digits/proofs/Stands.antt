@@ -2,11 +2,11 @@
 use Prim.Native.Nat.{ℕ, zero, suc, ◌+◌, ◌-◌, ◌≤◌, ◌<◌}
 use mathlib.Core.Path.{◌≡◌, refl, sym, ap, ◌∙◌}
 use mathlib.Core.List.{List, [], ◌∷◌, ◌++◌}
-use mathlib.Core.Option.{some, none}
+use Rattle.std.specs.Prelude.{None, Some, slice_get}
 use native.Mathlib.Omega.{arith}
 use native.Mathlib.Nat.{not-suc-le-zero, zero-add, add-zero, add_assoc}
 use native.Mathlib.Decide.{dec_lt}
-use lib.ListN.{length, get_or, get_elem?, length-append, get_or-append}
+use lib.ListN.{length, get_or, length-append, get_or-append}
 use lib.Seq.{get_or-append-add, ext_get_or}
 
 -- vs stands in the bytes from a place on
@@ -15,12 +15,12 @@ pub record Stands (bytes : List ℕ) (at : ℕ) (vs : List ℕ) : Type 0 where
   pub same : (k : ℕ) → k < length vs → get_or bytes (at + k) 0 ≡ get_or vs k 0
 
 -- an element that is there, and one that is not
-pub there : (l : List ℕ) (k : ℕ) → k < length l → get_elem? l k ≡ some (get_or l k 0)
+pub there : (l : List ℕ) (k : ℕ) → k < length l → slice_get l k ≡ Some (get_or l k 0)
 there [] k h = absurd (not-suc-le-zero h)
 there (x ∷ l) zero h = refl
 there (x ∷ l) (suc k) h = there l k (omega arith)
 
-pub beyond : (l : List ℕ) (k : ℕ) → length l ≤ k → get_elem? l k ≡ none
+pub beyond : (l : List ℕ) (k : ℕ) → length l ≤ k → slice_get l k ≡ None
 beyond [] k h = refl
 beyond (x ∷ l) zero h = absurd (not-suc-le-zero h)
 beyond (x ∷ l) (suc k) h = beyond l k (omega arith)

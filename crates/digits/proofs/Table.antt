@@ -4,7 +4,7 @@ use mathlib.Core.Path.{◌≡◌, refl, sym, ap, ◌∙◌}
 use mathlib.Core.Bool.{Bool, false, cond}
 use mathlib.Core.List.{List, [], ◌∷◌}
 use mathlib.Core.Logic.{inl, inr, ⊎_elim}
-use mathlib.Core.Option.{Option, none, some}
+use Rattle.std.specs.Prelude.{Option, None, Some}
 use native.Mathlib.Omega.{arith}
 use native.Mathlib.Nat.{zero-add}
 use native.Mathlib.Decide.{dec_lt}
@@ -24,20 +24,20 @@ whole-table = refl
 
 -- two lists of 256 values that are the same have the same value at each byte
 pub digit-table : (b : ℕ) → b < 256 → by_table b ≡ digit_value b
-digit-table b l = sym (at by_table) ∙ ap (λ (values : List (Option ℕ)). get_or values b none) whole-table ∙ at digit_value
+digit-table b l = sym (at by_table) ∙ ap (λ (values : List (Option ℕ)). get_or values b None) whole-table ∙ at digit_value
   where
-    at : (value : ℕ → Option ℕ) → get_or (tabulate 256 value 0) b none ≡ value b
-    at value = tabulate-at 256 value 0 b none l ∙ ap value (zero-add b)
+    at : (value : ℕ → Option ℕ) → get_or (tabulate 256 value 0) b None ≡ value b
+    at value = tabulate-at 256 value 0 b None l ∙ ap value (zero-add b)
 
 -- so the table shows what document 02 says of the bytes
 pub ascii-digits : AsciiDigits by_table
 ascii-digits = record {
   numerals = λ d l.
       let e : 48 + d - 48 ≡ d = omega arith in
-      digit-table (48 + d) (omega arith) ∙ decimal (48 + d) (omega arith) (omega arith) ∙ ap {B = Option ℕ} some e;
+      digit-table (48 + d) (omega arith) ∙ decimal (48 + d) (omega arith) (omega arith) ∙ ap {B = Option ℕ} Some e;
   letters = λ d l.
       let e : 97 + d - 87 ≡ 10 + d = omega arith in
-      digit-table (97 + d) (omega arith) ∙ letter (97 + d) (omega arith) (omega arith) ∙ ap {B = Option ℕ} some e;
+      digit-table (97 + d) (omega arith) ∙ letter (97 + d) (omega arith) (omega arith) ∙ ap {B = Option ℕ} Some e;
   no_other = λ b l h.
       digit-table b (omega (arith, l)) ∙ ⊎_elim (λ k. below b (omega (arith, k))) (⊎_elim (λ k. between b (omega (arith, k.0)) (omega (arith, k.1))) (λ k. above b (omega (arith, k)))) h;
 }
@@ -55,7 +55,7 @@ ascii-only value shows b l = go (dec_lt b 48) (dec_lt 57 b) (dec_lt b 97) (dec_l
     small-letter lo hi =
         let e : b ≡ 97 + (b - 97) = omega arith in
         let f : 10 + (b - 97) ≡ b - 87 = omega arith in
-        ap value e ∙ shows.letters (b - 97) (omega arith) ∙ ap {B = Option ℕ} some f ∙ sym (letter b lo hi)
+        ap value e ∙ shows.letters (b - 97) (omega arith) ∙ ap {B = Option ℕ} Some f ∙ sym (letter b lo hi)
 
     go : Dec (b < 48) → Dec (57 < b) → Dec (b < 97) → Dec (102 < b) → value b ≡ digit_value b
     go (yes p) q r s = shows.no_other b (omega arith) (inl (omega (arith, p))) ∙ sym (below b p)
@@ -72,10 +72,10 @@ module _ (b : ℕ) where
   Rest P [] = P
   Rest P (row ∷ rows) = Rest (P × (b ≡ row.0 → ⊥)) rows
 
-  pub in-no-row : (P : Type 0) (rows : List (ℕ × ℕ)) → Rest P rows → P × (beside rows b ≡ none)
+  pub in-no-row : (P : Type 0) (rows : List (ℕ × ℕ)) → Rest P rows → P × (beside rows b ≡ None)
   unfolding beside
   in-no-row P [] h = (h, refl)
   in-no-row P (row ∷ rows) h =
       let k = in-no-row (P × (b ≡ row.0 → ⊥)) rows h in
       let e : eqb b row.0 ≡ false = ne_eqb b row.0 k.0.1 in
-      (k.0.0, ap (λ (t : Bool). cond t (some row.1) (beside rows b)) e ∙ k.1)
+      (k.0.0, ap (λ (t : Bool). cond t (Some row.1) (beside rows b)) e ∙ k.1)

@@ -1,6 +1,5 @@
 -- The digits by cases, to be laid beside the ASCII table: document 02, #105. Assumes nothing: these are definitions.
-use Rattle.std.specs.Prelude.{ℕ, ◌+◌, ◌<◌, ◌≡◌, cond, List, [], ◌∷◌, ◌⊎◌, eqb}
-use Rattle.std.proofs.Math.Option.{Option, none, some}
+use Rattle.std.specs.Prelude.{ℕ, ◌+◌, ◌<◌, ◌≡◌, cond, List, [], ◌∷◌, ◌⊎◌, eqb, Option, None, Some}
 
 -- the byte of each digit and its value, in the order of the ASCII table
 abbrev pub digit_table : List (ℕ × ℕ)
@@ -25,8 +24,8 @@ digit_table =
 
 -- the value that a table has beside a byte
 unfoldable pub beside : List (ℕ × ℕ) → ℕ → Option ℕ
-beside [] b = none
-beside (row ∷ rows) b = cond (eqb b row.0) (some row.1) (beside rows b)
+beside [] b = None
+beside (row ∷ rows) b = cond (eqb b row.0) (Some row.1) (beside rows b)
 
 -- a byte's value as a digit, by the table
 unfoldable pub by_table : ℕ → Option ℕ
@@ -34,6 +33,6 @@ by_table b = beside digit_table b
 
 -- what the table shows of all 256 bytes: 48 to 57 are 0 to 9, 97 to 102 are 10 to 15, and no other is a digit
 pub record AsciiDigits (value : ℕ → Option ℕ) : Type 0 where
-  pub numerals : (d : ℕ) → d < 10 → value (48 + d) ≡ some d
-  pub letters : (d : ℕ) → d < 6 → value (97 + d) ≡ some (10 + d)
-  pub no_other : (b : ℕ) → b < 256 → (b < 48) ⊎ ((57 < b) × (b < 97)) ⊎ (102 < b) → value b ≡ none
+  pub numerals : (d : ℕ) → d < 10 → value (48 + d) ≡ Some d
+  pub letters : (d : ℕ) → d < 6 → value (97 + d) ≡ Some (10 + d)
+  pub no_other : (b : ℕ) → b < 256 → (b < 48) ⊎ ((57 < b) × (b < 97)) ⊎ (102 < b) → value b ≡ None

@@ -1,17 +1,16 @@
 // Numbers in hexadecimal digits: read from bytes, and written to lent ones.
 #![tactic(auto)]
 
-ghost use Rattle.std.specs.Prelude.{◌≡◌, cond, ◌+◌, ◌≤◌, ◌<◌, leb, length};
-ghost use Rattle.std.proofs.Math.Option.{get_or};
+ghost use Rattle.std.specs.Prelude.{◌≡◌, cond, ◌+◌, ◌≤◌, ◌<◌, leb, length, unwrap_or};
 ghost use Rattle.std.proofs.lemmas.List.Edits.{sets};
 ghost use Rattle.digits.specs.Digits.{digit, hex};
-ghost use Rattle.digits.specs.Reading.{digit_value, digit_at, number_in, as_number};
+ghost use Rattle.digits.specs.Reading.{digit_value, digit_at, number_in};
 ghost use Rattle.digits.specs.Table.{by_table};
 
 // The value of a byte as a digit, and 16 where it is none: sixteen cases in the order of the ASCII table, to be laid beside it.
 pub fn digit_value(byte: u8) -> u8
-    ensures rule { result ≡ get_or (digit_value byte) 16 }
-    ensures table { result ≡ get_or (by_table byte) 16 }
+    ensures rule { result ≡ unwrap_or (digit_value byte) 16 }
+    ensures table { result ≡ unwrap_or (by_table byte) 16 }
 {
     match byte {
         b'0' => 0,
@@ -36,13 +35,10 @@ pub fn digit_value(byte: u8) -> u8
 
 // The value of a byte that is among 64 bytes of the ASCII table, from a byte on; of any other, what is known by then.
 fn digit_among(byte: u8, from: u8, known: u8) -> u8
-    ensures { (from ≤ byte → byte < from + 64 → result ≡ get_or (digit_value byte) 16)
+    ensures { (from ≤ byte → byte < from + 64 → result ≡ unwrap_or (digit_value byte) 16)
         × (byte < from → result ≡ known) × (from + 64 ≤ byte → result ≡ known) }
 {
-    if byte < from {
-        return known;
-    }
-    if 63 < byte - from {
+    if byte < from || 63 < byte - from {
         return known;
     }
     digit_value(byte)
@@ -51,29 +47,21 @@ fn digit_among(byte: u8, from: u8, known: u8) -> u8
 // The value of a byte as a digit, asked for in one half of the ASCII table and then in the other. Numerals stand close together in the first half, letters in the
 // second, and of cases close together the compiler makes a sum. Of all sixteen at once it makes a jump, and a sheet takes seven times as long to read.
 // It sees the cases only where they are asked for in one place of all the code (docs/DECISIONS.md, 81).
+// Stays: none is 16 here, in `digit_among` and in `digit_at`, and not an Option, since of bytes alone the compiler makes that sum; `digit_value` is public.
 fn digit_by_halves(byte: u8) -> u8
-    ensures { result ≡ get_or (digit_value byte) 16 }
+    ensures { result ≡ unwrap_or (digit_value byte) 16 }
 {
     let mut value: u8 = 16;
-    let mut from: u8 = 0;
-    while from < 128 {
-        value = digit_among(byte, from, value);
-        from += 64;
+    for half in 0..2 {
+        value = digit_among(byte, 64 * half, value);
     }
     value
-}
-
-// What stands in digits at a place, if all of them are digits.
-#[derive(Drop)]
-pub enum Number {
-    Is(u32),
-    Nothing,
 }
 
 // The digit at a place and so many further, and 16 where there is none.
 fn digit_at(s: &[u8], at: usize, further: usize) -> u8
     requires { further ≤ 8 }
-    ensures { result ≡ get_or (digit_at s.now (at + further)) 16 }
+    ensures { result ≡ unwrap_or (digit_at s.now (at + further)) 16 }
 {
     if s.len() <= at {
         return 16;
@@ -86,26 +74,25 @@ fn digit_at(s: &[u8], at: usize, further: usize) -> u8
 }
 
 // The number in at most 8 digits from a place on; nothing where there are more digits to read than that.
-pub fn number_at(s: &[u8], at: usize, digits: usize) -> Number
-    ensures { result ≡ as_number (number_in digits s.now at) }
+pub fn number_at(s: &[u8], at: usize, digits: usize) -> Option<u32>
+    ensures { result ≡ number_in digits s.now at }
 {
     if 8 < digits {
-        return Number::Nothing;
+        return None;
     }
     let mut x: u32 = 0;
-    let mut k: usize = 0;
-    while k < digits {
+    for k in 0..digits {
         let d = digit_at(s, at, k);
         if 15 < d {
-            return Number::Nothing;
+            return None;
         }
-        x = 16 * x + (d as u32);
-        k += 1;
+        x = 16 * x + u32::from(d);
     }
-    Number::Is(x)
+    Some(x)
 }
 
 // A digit's byte.
+#[tactic(auto, unfolding(crate::specs::Digits::digit))]
 fn digit(d: u32) -> u8
     requires { d < 16 }
     ensures { result ≡ digit d }
@@ -122,9 +109,7 @@ fn put_number(out: &mut [u8], at: usize, digits: usize, x: u32)
     ensures { out.new ≡ sets out.old at (hex digits x) }
 {
     let mut rest = x;
-    let mut k = digits;
-    while 0 < k {
-        k -= 1;
+    for k in (0..digits).rev() {
         out[at + k] = digit(rest % 16);
         rest /= 16;
     }
@@ -135,10 +120,7 @@ pub fn write_number(out: &mut [u8], at: usize, digits: usize, x: u32) -> bool
     ensures { (result ≡ leb (at + digits) (length out.old))
         × (out.new ≡ cond (leb (at + digits) (length out.old)) (sets out.old at (hex digits x)) out.old) }
 {
-    if out.len() < digits {
-        return false;
-    }
-    if out.len() - digits < at {
+    if out.len() < digits || out.len() - digits < at {
         return false;
     }
     put_number(out, at, digits, x);

@@ -5,8 +5,7 @@ use mathlib.Core.Bool.{Bool, true}
 use mathlib.Core.List.{List}
 use mathlib.Core.Logic.{◌⊎◌, inl, inr}
 use native.Mathlib.Omega.{arith}
-use lib.ListN.{length, get_or, take, replicate, length-replicate}
-use lib.Seq.{take_all}
+use lib.ListN.{length, get_or, replicate, length-replicate}
 use Rattle.sets.specs.Bit.{has}
 use Rattle.sets.proofs.Counting.{not-both}
 use Rattle.sets.proofs.Filling.{zeros-at}
@@ -69,31 +68,22 @@ module _ {m n : ℕ} {bids : List ℕ} (f : Fit m n bids) where
         let lb : b < n = omega arith in
         unfold amount in line-at n table r b lb ∙ t r b lr lb ∙ sym (line-at m bids b r lr) ∙ sym (transposed-at (bid_at m bids) r b)
 
-    whole : take 2048 table ≡ table
-    whole = take_all 2048 table (omega (arith, long))
-
-    pub transposed-standing : Standing n m (take 2048 table) (others m (2 ^ 64 - 1)) (replicate 64 0) (replicate 64 0)
-    transposed-standing = subst (λ (x : List ℕ). Standing n m x (others m (2 ^ 64 - 1)) (replicate 64 0) (replicate 64 0)) (sym whole) standing
+    pub transposed-standing : Standing n m table (others m (2 ^ 64 - 1)) (replicate 64 0) (replicate 64 0)
+    transposed-standing =
+        record {
+          table = transposed-table;
+          long = length-replicate {A = ℕ} 64 0;
+          long_own = length-replicate {A = ℕ} 64 0;
+          small = zeros-small 64;
+          held = held_none n (bid_at n table) (others m (2 ^ 64 - 1)) (amount (replicate 64 0)) (amount (replicate 64 0)) nobody (amount-zeros 64);
+        }
       where
-        standing : Standing n m table (others m (2 ^ 64 - 1)) (replicate 64 0) (replicate 64 0)
-        standing =
-            record {
-              table = transposed-table;
-              long = length-replicate {A = ℕ} 64 0;
-              long_own = length-replicate {A = ℕ} 64 0;
-              small = zeros-small 64;
-              held = held_none n (bid_at n table) (others m (2 ^ 64 - 1)) (amount (replicate 64 0)) (amount (replicate 64 0)) nobody (amount-zeros 64);
-            }
-          where
-            nobody : (r : ℕ) → others m (2 ^ 64 - 1) r ≡ true → ⊥
-            nobody r on =
-                let w = others-use m (2 ^ 64 - 1) r on in
-                not-both (has (2 ^ 64 - 1) (suc r)) (unfold has in is_set-full 64 r (omega (arith, w.0, f.max_items))) w.1
+        nobody : (r : ℕ) → others m (2 ^ 64 - 1) r ≡ true → ⊥
+        nobody r on =
+            let w = others-use m (2 ^ 64 - 1) r on in
+            not-both (has (2 ^ 64 - 1) (suc r)) (unfold has in is_set-full 64 r (omega (arith, w.0, f.max_items))) w.1
 
-    module _ (surplus option : List ℕ) (part : Put n (take 2048 table) (everyone m) (replicate 64 0) (replicate 64 0) surplus option) where
-      p : Put n table (everyone m) (replicate 64 0) (replicate 64 0) surplus option
-      p = subst (λ (x : List ℕ). Put n x (everyone m) (replicate 64 0) (replicate 64 0) surplus option) whole part
-
+    module _ (surplus option : List ℕ) (p : Put n table (everyone m) (replicate 64 0) (replicate 64 0) surplus option) where
       held : Held n (transposed_bid (bid_at m bids)) (everyone m) (amount surplus) (amount option)
       held = held-bids (transposed_bid (bid_at m bids)) (λ r c on l. transposed-bids r c (everyone-use m r on) l) p.held
 

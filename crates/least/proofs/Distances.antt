@@ -1,16 +1,25 @@
 -- Distances, place by place, and the nearest item. THEORY.md 2.12. Assumes nothing.
 use Prim.Native.Nat.{ℕ, zero, suc, ◌+◌, ◌-◌, ◌≤◌, ◌<◌, min, max}
 use mathlib.Core.Path.{◌≡◌, refl, sym, ap, ◌∙◌, subst}
+use mathlib.Core.Bool.{Bool, cond}
 use mathlib.Core.List.{List}
 use mathlib.Core.Logic.{◌⊎◌, inl, inr}
 use native.Mathlib.Omega.{arith}
 use native.Mathlib.Decide.{ℕ_discrete, dec_le}
+use lib.Dec.{eqb}
 use lib.ListN.{length, get_or, set, length-set}
 use lib.Seq.{get_or-set_same, get_or-set_other}
-use borrow.Author.Count.{below_none, below_more}
+use borrow.Author.Count.{below_more}
+use borrow.Author.Tests.{eq-eqb, ne_eqb}
 use Rattle.rule.specs.Sheet.{amount}
 use Rattle.least.specs.Searching.{Item, Relaxed}
 use Rattle.least.specs.Steps.{Reached, LeftAt, IsLeft, Lowest, NumberOf, Numbered, WithDistance, Nearest, at_option}
+
+-- ---- two numbers compared
+
+-- what `if_same` gives, case by case
+pub same_or : (a b x y r : ℕ) → r ≡ cond (eqb a b) x y → (a ≡ b → r ≡ x) × ((a ≡ b → ⊥) → r ≡ y)
+same_or a b x y r e = ((λ q. e ∙ ap (λ (t : Bool). cond t x y) (eq-eqb a b q)), λ n. e ∙ ap (λ (t : Bool). cond t x y) (ne_eqb a b n))
 
 -- ---- what stands for an option
 
@@ -34,9 +43,6 @@ option-amount xs (suc k) = refl
 module _ (u j : ℕ) (line prices dist via : List ℕ) where
   abbrev At : (x d w : ℕ) → Type 0
   At x d w = Relaxed u j (get_or line x 0) (get_or prices x 0) (get_or dist x 0) (get_or via x 0) d w
-
-  pub reached-none : length dist ≡ 64 → length via ≡ 64 → Reached u j line prices dist via 0 dist via
-  reached-none ld lv = record { long_dist = ld; long_via = lv; done = below_none _; rest = λ x l. (refl, refl) }
 
   pub reached-more : (n : ℕ) (near from : List ℕ) → n < 64 → Reached u j line prices dist via n near from
       → (v d w : ℕ) → v ≡ u + get_or prices n 0 - get_or line n 0 → d ≡ min v (get_or near n 0)
@@ -73,9 +79,6 @@ module _ (u j : ℕ) (line prices dist via : List ℕ) where
 
 -- ---- the least distance of the places that are left
 
-pub lowest-none : (dist left : List ℕ) → Lowest dist left 0 65535
-lowest-none dist left = record { least = below_none _; some = inl refl }
-
 -- one place more, whose distance d is set first
 pub lowest-more : (dist left : List ℕ) (n r d k v : ℕ) → n < length dist → Lowest dist left n r
     → (get_or left n 0 ≡ 0 → k ≡ 65535) × ((get_or left n 0 ≡ 0 → ⊥) → k ≡ d) → v ≡ min r k → v ≤ 65535 → Lowest (set dist n d) left (n + 1) v
@@ -99,9 +102,6 @@ lowest-more dist left n r d k v l t ek ev most =
     go (no z) (no h) s = inr (n, omega arith, z, omega (arith, same, ek.1 z, ev, h))
 
 -- ---- a place at that distance
-
-pub with_none : (dist left : List ℕ) (low : ℕ) → WithDistance dist left low 0 0
-with_none dist left low = record { found = λ x l h e. absurd (omega arith); there = λ h. absurd (omega arith) }
 
 pub with-more : (dist left : List ℕ) (low n r w v : ℕ) → WithDistance dist left low n r
     → (get_or dist n 0 ≡ low → w ≡ get_or left n 0) × ((get_or dist n 0 ≡ low → ⊥) → w ≡ 0) → v ≡ max r w → WithDistance dist left low (n + 1) v

@@ -9,7 +9,6 @@ pub mod Numbering
 pub mod Entering
 pub mod Holders
 pub mod Seeking
-pub mod Changing
 pub mod Walking
 pub mod Putting
 pub mod Joining

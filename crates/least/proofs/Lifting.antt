@@ -282,8 +282,8 @@ module _ {m n : ℕ} {bids base prices own : List ℕ} (c : From m n bids base p
           past = put.past;
         }
 
-    pub rise-least : (q : List ℕ) → Lowered m n bids next q o → From m n bids start q o
-    rise-least q l =
+    pub rise-least : (q r : List ℕ) → Lowered m n bids next q r → From m n bids start q r
+    rise-least q r l =
         record {
           max_items = c.max_items;
           standing = l.standing;

@@ -1,46 +1,38 @@
 -- What stands for the items that are left: their numbers, and 64 more for free ones, where these are left too. THEORY.md 2.12. Assumes nothing.
 use Prim.Native.Nat.{ℕ, zero, suc, ◌+◌, ◌≤◌, ◌<◌}
-use mathlib.Core.Path.{◌≡◌, sym, ap, ◌∙◌}
+use mathlib.Core.Path.{◌≡◌, ap, ◌∙◌}
+use mathlib.Core.Bool.{Bool, cond}
 use mathlib.Core.List.{List}
 use mathlib.Core.Logic.{◌⊎◌, inl, inr}
 use native.Mathlib.Omega.{arith}
 use native.Mathlib.Decide.{ℕ_discrete}
-use lib.ListN.{get_or, set, replicate, length-set, length-replicate, get_or-eq_default}
-use lib.Seq.{get_or-set_same, get_or-set_other}
-use Rattle.sets.proofs.Counting.{lt-or-le, below_suc}
+use native.Mathlib.Nat.{zero-add}
+use native.Mathlib.Numerals.{add-one}
+use lib.Dec.{eqb}
+use lib.ListN.{length, get_or, get_or-eq_default}
+use borrow.Author.Tests.{eq-eqb, ne_eqb}
+use Rattle.sets.specs.Lists.{tabulate}
+use Rattle.sets.proofs.Counting.{lt-or-le}
+use Rattle.sets.proofs.Lists.{tabulate-length, tabulate-at}
 use Rattle.rule.specs.Sheet.{amount}
 use Rattle.least.specs.Searching.{Item}
 use Rattle.least.specs.Steps.{NumberOf, Numbered, LeftBy, AllLeft, HeldLeft, IsLeft}
 use Rattle.least.specs.Falling.{HeldItem}
 
 module _ (f : ℕ → ℕ) (own : List ℕ) where
-  pub left-none : LeftBy f own 0 (replicate 64 0)
-  left-none = record { long = length-replicate {A = ℕ} 64 0; free = λ x l e. absurd (omega arith); held = λ x l e. absurd (omega arith) }
-
-  pub left-more : (n : ℕ) (left : List ℕ) → n < 64 → LeftBy f own n left → (v : ℕ) → (get_or own n 0 ≡ 0 → v ≡ f n) × ((get_or own n 0 ≡ 0 → ⊥) → v ≡ n + 1) → LeftBy f own (n + 1) (set left n v)
-  left-more n left l t v ev =
+  -- filled place by place
+  pub all-left : (g : ℕ → ℕ) → ((x : ℕ) → g x ≡ f x) → (left : List ℕ) → left ≡ tabulate 64 (λ x. cond (eqb (get_or own x 0) 0) (g x) (x + 1)) 0 → LeftBy f own 64 left
+  all-left g same left e =
       record {
-        long = length-set left n v ∙ t.long;
-        free = λ x lx e. free x e (below_suc (omega arith));
-        held = λ x lx e. held x e (below_suc (omega arith));
+        long = ap length e ∙ tabulate-length 64 _ 0;
+        free = λ x l z. here x l ∙ ap (λ (b : Bool). cond b (g x) (x + 1)) (eq-eqb (get_or own x 0) 0 z) ∙ same x;
+        held = λ x l n. here x l ∙ ap (λ (b : Bool). cond b (g x) (x + 1)) (ne_eqb (get_or own x 0) 0 n) ∙ add-one x;
       }
     where
-      here : get_or (set left n v) n 0 ≡ v
-      here = get_or-set_same left n v 0 (omega (arith, t.long))
-
-      off : (x : ℕ) → x < n → get_or (set left n v) x 0 ≡ get_or left x 0
-      off x lx = get_or-set_other left n x v 0 (λ q. omega arith)
-
-      free : (x : ℕ) → get_or own x 0 ≡ 0 → (x ≡ n) ⊎ (x < n) → get_or (set left n v) x 0 ≡ f x
-      free x e (inl q) = ap (λ (z : ℕ). get_or (set left n v) z 0) q ∙ here ∙ ev.0 (ap (λ (z : ℕ). get_or own z 0) (sym q) ∙ e) ∙ ap f (sym q)
-      free x e (inr lx) = off x lx ∙ t.free x lx e
-
-      held : (x : ℕ) → (get_or own x 0 ≡ 0 → ⊥) → (x ≡ n) ⊎ (x < n) → get_or (set left n v) x 0 ≡ suc x
-      held x e (inl q) = ap (λ (z : ℕ). get_or (set left n v) z 0) q ∙ here ∙ omega (arith, ev.1 (λ z. e (ap (λ (y : ℕ). get_or own y 0) q ∙ z)), q)
-      held x e (inr lx) = off x lx ∙ t.held x lx e
-
-  pub left_end : (n : ℕ) (left : List ℕ) → 64 ≤ n → LeftBy f own n left → LeftBy f own 64 left
-  left_end n left l t = record { long = t.long; free = λ x lx e. t.free x (omega arith) e; held = λ x lx e. t.held x (omega arith) e }
+      here : (x : ℕ) → x < 64 → get_or left x 0 ≡ cond (eqb (get_or own x 0) 0) (g x) (x + 1)
+      here x l =
+          let at : ℕ → ℕ = λ x. cond (eqb (get_or own x 0) 0) (g x) (x + 1) in
+          ap (λ (xs : List ℕ). get_or xs x 0) e ∙ tabulate-at 64 at 0 x 0 l ∙ ap at (zero-add x)
 
   pub numbered : ((x : ℕ) → (f x ≡ 0) ⊎ (f x ≡ suc x + 64)) → (left : List ℕ) → LeftBy f own 64 left → Numbered left
   unfolding Numbered

@@ -1,7 +1,7 @@
 -- Who holds an item, place by place, and what those who hold none offer, bidder by bidder. THEORY.md 2.13. Assumes nothing.
 use Prim.Native.Nat.{ℕ, zero, suc, ◌+◌, ◌≤◌, ◌<◌, max}
-use mathlib.Core.Path.{◌≡◌, refl, sym, ap, ◌∙◌, subst}
-use mathlib.Core.Bool.{Bool, true, false, ◌||◌}
+use mathlib.Core.Path.{◌≡◌, sym, ap, ◌∙◌}
+use mathlib.Core.Bool.{true, false, ◌||◌}
 use mathlib.Core.List.{List}
 use mathlib.Core.Logic.{◌⊎◌, inl, inr}
 use native.Mathlib.Omega.{arith}
@@ -38,17 +38,13 @@ seated-more n own s r t h eh e =
 
 -- ---- what the others offer
 
-pub offered-none : (m : ℕ) (bids : List ℕ) (seats : ℕ) (base : List ℕ) → length base ≡ 64 → Offered m bids seats 0 base base
-offered-none m bids seats base l =
-    record { long = l; from_base = λ i x. omega arith; from_bid = λ b i l e x. absurd (omega arith); is = λ i x. inl refl }
-
 module _ (m : ℕ) (bids : List ℕ) (seats k : ℕ) (base best : List ℕ) (o : Offered m bids seats k base best) where
   later : (i : ℕ) → (b : ℕ) × (b < k) × (has seats (suc b) ≡ false) × (bid_at m bids b i ≡ amount best i)
       → (b : ℕ) × (b < k + 1) × (has seats (suc b) ≡ false) × (bid_at m bids b i ≡ amount best i)
   later i w = (w.0, omega (arith, w.1), w.2, w.3)
 
   -- bidder k holds an item
-  offered-skip : has seats (suc k) ≡ true → Offered m bids seats (k + 1) base best
+  pub offered-skip : has seats (suc k) ≡ true → Offered m bids seats (k + 1) base best
   offered-skip on = record { long = o.long; from_base = o.from_base; from_bid = λ b i l e x. bid b i e x (below_suc (omega arith)); is = λ i x. is i (o.is i x) }
     where
       bid : (b i : ℕ) → has seats (suc b) ≡ false → Item m i → (b ≡ k) ⊎ (b < k) → bid_at m bids b i ≤ amount best i
@@ -61,7 +57,7 @@ module _ (m : ℕ) (bids : List ℕ) (seats k : ℕ) (base best : List ℕ) (o :
       is i (inr w) = inr (later i w)
 
   -- bidder k does not
-  offered-more : has seats (suc k) ≡ false → (line : List ℕ) → line ≡ line_of m bids k → length line ≡ m → (next : List ℕ)
+  pub offered-more : has seats (suc k) ≡ false → (line : List ℕ) → line ≡ line_of m bids k → length line ≡ m → (next : List ℕ)
       → Changed (length line) (λ x. max (get_or best x 0) (get_or line x 0)) best next → Offered m bids seats (k + 1) base next
   offered-more off line el len next c =
       record {
@@ -84,8 +80,3 @@ module _ (m : ℕ) (bids : List ℕ) (seats k : ℕ) (base best : List ℕ) (o :
       is i x (no h) s = inr (k, omega arith, off, omega (arith, high i x, h))
       is i x (yes h) (inl e) = inl (omega (arith, high i x, h, e))
       is i x (yes h) (inr w) = inr (w.0, omega (arith, w.1), w.2, omega (arith, high i x, h, w.3))
-
-  pub offered-next : (holds : Bool) → has seats (suc k) ≡ holds → (line : List ℕ) → line ≡ line_of m bids k → length line ≡ m → (next : List ℕ) → (holds ≡ true → next ≡ best)
-      → (holds ≡ false → Changed (length line) (λ x. max (get_or best x 0) (get_or line x 0)) best next) → Offered m bids seats (k + 1) base next
-  offered-next true e line el len next same more = subst (λ (z : List ℕ). Offered m bids seats (k + 1) base z) (sym (same refl)) (offered-skip e)
-  offered-next false e line el len next same more = offered-more e line el len next (more refl)

@@ -5,7 +5,7 @@ use mathlib.Core.List.{List}
 use mathlib.Core.Logic.{◌⊎◌, inl, inr}
 use native.Mathlib.Omega.{arith}
 use native.Mathlib.Decide.{ℕ_discrete}
-use lib.ListN.{length, replicate, length-replicate}
+use lib.ListN.{length, replicate}
 use Rattle.rule.specs.Sheet.{amount}
 use Rattle.bids.specs.Lent.{line_of}
 use Rattle.bids.specs.Line.{row_shown}
@@ -26,9 +26,6 @@ module _ {m k : ℕ} {bids prices own : List ℕ} (r : Ready m k bids prices own
   reach dist = reach_of 4095 line (amount prices) (amount dist)
 
   -- ---- the start
-
-  pub unsearched-long : (dist via left : List ℕ) → Unsearched own dist via left → (length dist ≡ 64) × (length via ≡ 64)
-  unsearched-long dist via left z = (ap length z.far ∙ length-replicate {A = ℕ} 64 16384, ap length z.from ∙ length-replicate {A = ℕ} 64 0)
 
   first-line : (first : List ℕ) → first ≡ row_shown m k bids → first ≡ line_of m bids k
   first-line first lent = lent ∙ table-row m r.bidders bids r.table k r.member

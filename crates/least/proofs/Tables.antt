@@ -8,7 +8,7 @@ use native.Mathlib.Nat.{mul-le-mul_right}
 use native.Mathlib.Decide.{ℕ_discrete}
 use lib.ListN.{length, get_or, set, replicate, length-set}
 use lib.Seq.{get_or-set_same, get_or-set_other}
-use borrow.Author.Count.{below_none, below_more}
+use borrow.Author.Count.{below_more}
 use Rattle.sets.proofs.Counting.{below_suc}
 use Rattle.sets.proofs.Filling.{zeros-at}
 use Rattle.bids.proofs.Lent.{line-inside}
@@ -24,9 +24,6 @@ module _ {m n : ℕ} {bids : List ℕ} (f : Fit m n bids) where
 
   pub bid-fits : (b i : ℕ) → b < n → i < m → b * m + i < length bids
   bid-fits b i lb li = omega (arith, line-inside m n b (length bids) f.long lb, li)
-
-  pub transposed-none : (i : ℕ) (table : List ℕ) → length table ≡ 2048 → Small table → TransposedTo m n bids i 0 table table
-  transposed-none i table l s = record { long = l; small = s; done = below_none _; rest = λ p h. refl }
 
   pub transposed-more : (i b : ℕ) (before table : List ℕ) → i < m → b < n → TransposedTo m n bids i b before table
       → TransposedTo m n bids i (b + 1) before (set table (i * n + b) (get_or bids (b * m + i) 0))

@@ -10,7 +10,7 @@ use Rattle.rule.specs.Sheet.{amount}
 use Rattle.least.specs.Shifting.{steps}
 use Rattle.least.specs.Steps.{at_option}
 use Rattle.least.specs.Putting.{Chained, Shifted}
-use Rattle.least.proofs.Shifting.{Walk, at, walk_start, walk-small, walk-less, walk-next, walk_end}
+use Rattle.least.proofs.Shifting.{Walk, at, walk-small, walk-less, walk-next, walk_end}
 use Rattle.least.proofs.Entering.{amount-item}
 
 -- the way back is at item x
@@ -20,9 +20,6 @@ pub record Walked (k : ℕ) (own via : List ℕ) (first : ℕ) (holders : List �
   pub walk : (s : Chained k own via first) → Walk s.items s.bid s.on k s.prices (amount own) s.mask (amount via) first (amount holders) x
 
 module _ {k : ℕ} {own via : List ℕ} {first : ℕ} (s : Chained k own via first) where
-  pub walked_start : Walked k own via first own first
-  walked_start = record { long = s.long; small = omega (arith, s.chain.small, s.max_items); walk = λ t. walk_start t.chain }
-
   module _ {holders : List ℕ} {x : ℕ} (w : Walked k own via first holders x) (ne : x ≡ 0 → ⊥) where
     pos : 0 < x
     pos = omega (arith, ne)

@@ -5,9 +5,14 @@
 // Prices and holders that then balance fall to the least that do, in one more search. From there prices rise to the close, and from the close to the turn.
 //
 // Arrays have 64 places, for items or for bidders. Item i has place i - 1; a holder is a bidder counted from 1, or 0.
+//
+// Stays: 0 for null, for no holder and for what is left no more, and a list of numbers for each, not one of structs: the definitions speak of them so
+// (specs/Holding, specs/Steps).
+// Stays: bids, items and bidders go as parameters of their own. A struct of them, which was tried and proved, is no plainer: what calls no longer say the clauses
+// say twice (`bids.now.table.now`). Random sheets take 2 to 8 per cent longer by it, within the limits of docs/BENCHMARKS.
 #![tactic(auto)]
 
-ghost use Rattle.std.specs.Prelude.{◌≡◌, Bool, true, false, ◌||◌, List, ℕ, ◌+◌, ◌-◌, ◌*◌, ◌≤◌, ◌<◌, max, length, get_or, set, replicate, eqb};
+ghost use Rattle.std.specs.Prelude.{◌≡◌, Bool, true, false, cond, ◌||◌, List, ℕ, ◌+◌, ◌-◌, ◌*◌, ◌≤◌, ◌<◌, max, length, get_or, set, replicate, eqb};
 ghost use Rattle.sets.specs.Bit.{has, set_of};
 ghost use Rattle.sets.specs.Lists.{places};
 ghost use Rattle.rule.specs.Sheet.{amount};
@@ -23,73 +28,27 @@ ghost use Rattle.least.specs.Falling.{Seated, Offered, Descends, Descended, Lowe
 ghost use Rattle.least.specs.Transposing.{TransposedTo, Transposed, Options, Given, Balanced};
 ghost use Rattle.least.specs.Putting.{Ready, Unsearched, Seeking, Changed, Chained, Shifted, Put, everyone, others, Standing, Table};
 
+use sets::Set;
+use std::array;
+
 // ---- numbers
 
 // One number where two are the same, and another where they are not.
+// Stays: a function of its own keeps `if`s out of the loops below (CONTRIBUTING, rule 4), whose proofs would part in two at each.
 fn if_same(a: u16, b: u16, then: u16, other: u16) -> u16
-    ensures { (a ≡ b → result ≡ then) × ((a ≡ b → ⊥) → result ≡ other) }
+    ensures { result ≡ cond (eqb a b) then other }
 {
     if a == b { then } else { other }
 }
 
 // ---- distances
 
-// The distances of the items, and from where each was reached, after somebody with this line and reach u was entered at item j: an item is as much nearer as it
-// is worth to them. Answers the least distance of those that are left, and 65,535 if none is.
-// How many items there are is left to the compiler, which then takes several at a time; a loop over 64 it would unroll.
-fn relax(
-    dist: &mut [u16; 64],
-    via: &mut [u16; 64],
-    left: &[u16; 64],
-    prices: &[u16; 64],
-    line: &[u16],
-    u: u16,
-    j: u16,
-) -> u16
-    requires { (length line.now ≤ 64) × Small prices.now × (u ≤ 8190) × (length dist.old ≡ 64) × (length via.old ≡ 64) }
-    ensures { Reached u j line.now prices.now dist.old via.old (length line.now) dist.new via.new
-        × Lowest dist.new left.now (length line.now) result }
-{
-    let mut low: u16 = 65535;
-    let mut x: usize = 0;
-    while x < line.len() {
-        let old = dist[x];
-        let d = prices::smaller(prices::over(u + prices[x], line[x]), old);
-        via[x] = if_same(d, old, via[x], j);
-        dist[x] = d;
-        low = prices::smaller(low, if_same(left[x], 0, 65535, d));
-        x += 1;
-    }
-    low
-}
-
-// What stands for an item at that distance that is left, and 0 if there is none.
-fn item_with(dist: &[u16; 64], left: &[u16; 64], items: usize, low: u16) -> u16
-    requires { items ≤ 64 }
-    ensures { WithDistance dist.now left.now low items result }
-{
-    let mut item: u16 = 0;
-    let mut x: usize = 0;
-    while x < items {
-        item = prices::larger(item, if_same(dist[x], low, left[x], 0));
-        x += 1;
-    }
-    item
-}
-
-// The nearest item that is left, a free one first, and 0 if null is as near.
-fn nearest(dist: &[u16; 64], left: &[u16; 64], items: usize, low: u16, null: u16) -> u16
-    requires { (items ≤ 64) × Numbered left.now × Lowest dist.now left.now items low }
-    ensures { Nearest items null dist.now left.now result }
-{
-    if null <= low {
-        return 0;
-    }
-    let item = item_with(dist, left, items, low);
-    if item <= 64 {
-        return item;
-    }
-    item - 64
+// How far the items are from where a search starts, from where each was reached, and what stands for those that are left.
+#[derive(Drop)]
+struct Paths {
+    dist: [u16; 64],
+    via: [u16; 64],
+    left: [u16; 64],
 }
 
 // The reach of who holds an item, and the least distance of the items that are left then.
@@ -99,24 +58,76 @@ struct Reach {
     low: u16,
 }
 
-// Item j is entered, and its holder, who has this line, goes on from there.
-fn enter(
-    dist: &mut [u16; 64],
-    via: &mut [u16; 64],
-    left: &mut [u16; 64],
-    prices: &[u16; 64],
-    line: &[u16],
-    j: u16,
-) -> Reach
-    requires { Enters j line.now prices.now dist.old via.old left.old }
-    ensures { Entered j line.now prices.now dist.old via.old left.old
-        dist.new via.new left.new result.u result.low }
-{
-    let x = (j - 1) as usize;
-    let u = line[x] - prices[x] + dist[x];
-    left[x] = 0;
-    let low = relax(dist, via, left, prices, line, u, j);
-    Reach { u: u, low: low }
+impl Paths {
+    // Nothing is reached yet: all is far.
+    fn new(left: [u16; 64]) -> Paths
+        ensures { (result.dist ≡ replicate 64 16384) × (result.via ≡ replicate 64 0) × (result.left ≡ left) }
+    {
+        Paths {
+            dist: [16384; 64],
+            via: [0; 64],
+            left,
+        }
+    }
+
+    // The paths after somebody with this line and reach u was entered at item j: an item is as much nearer as it is worth to them. Answers the least distance of
+    // those that are left, and 65,535 if none is.
+    // How many items there are is left to the compiler, which then takes several at a time; a loop over 64 it would unroll.
+    fn relax(&mut self, prices: &[u16; 64], line: &[u16], u: u16, j: u16) -> u16
+        requires { (length line.now ≤ 64) × Small prices.now × (u ≤ 8190) }
+        ensures { Reached u j line.now prices.now self.old.dist self.old.via (length line.now) self.new.dist self.new.via
+            × Lowest self.new.dist self.old.left (length line.now) result × (self.new.left ≡ self.old.left) }
+    {
+        let mut low = u16::MAX;
+        for (x, &bid) in line.iter().enumerate() {
+            let old = self.dist[x];
+            let d = (u + prices[x]).saturating_sub(bid).min(old);
+            self.via[x] = if_same(d, old, self.via[x], j);
+            self.dist[x] = d;
+            low = low.min(if_same(self.left[x], 0, u16::MAX, d));
+        }
+        low
+    }
+
+    // What stands for an item at that distance that is left, and 0 if there is none.
+    fn item_with(&self, items: usize, low: u16) -> u16
+        requires { items ≤ 64 }
+        ensures { WithDistance self.now.dist self.now.left low items result }
+    {
+        let mut item: u16 = 0;
+        for x in 0..items {
+            item = item.max(if_same(self.dist[x], low, self.left[x], 0));
+        }
+        item
+    }
+
+    // The nearest item that is left, a free one first, and 0 if null is as near.
+    fn nearest(&self, items: usize, low: u16, null: u16) -> u16
+        requires { (items ≤ 64) × Numbered self.now.left × Lowest self.now.dist self.now.left items low }
+        ensures { Nearest items null self.now.dist self.now.left result }
+    {
+        if null <= low {
+            return 0;
+        }
+        let item = self.item_with(items, low);
+        if item <= 64 {
+            return item;
+        }
+        item - 64
+    }
+
+    // Item j is entered, and its holder, who has this line, goes on from there.
+    fn enter(&mut self, prices: &[u16; 64], line: &[u16], j: u16) -> Reach
+        requires { Enters j line.now prices.now self.old.dist self.old.via self.old.left }
+        ensures { Entered j line.now prices.now self.old.dist self.old.via self.old.left
+            self.new.dist self.new.via self.new.left result.u result.low }
+    {
+        let x = usize::from(j - 1);
+        let u = line[x] - prices[x] + self.dist[x];
+        self.left[x] = 0;
+        let low = self.relax(prices, line, u, j);
+        Reach { u, low }
+    }
 }
 
 // What stands for an option: for null, or in the place of an item.
@@ -127,10 +138,17 @@ fn at(xs: &[u16; 64], i: u16, null: u16) -> u16
     if i == 0 {
         return null;
     }
-    xs[(i - 1) as usize]
+    xs[usize::from(i - 1)]
 }
 
 // ---- one bidder more
+
+// Prices, and who holds each item.
+#[derive(Drop)]
+struct Outcome {
+    prices: [u16; 64],
+    own: [u16; 64],
+}
 
 // Where a search has ended: the distance of null, and the item from where it was reached, or 0; and the nearest option, which is free.
 #[derive(Drop)]
@@ -140,47 +158,28 @@ struct Found {
     next: u16,
 }
 
-// The bidder at place k looks for an option: from the nearest item to the next, as long as somebody holds it. Null is always free.
-fn search(
-    dist: &mut [u16; 64],
-    via: &mut [u16; 64],
-    left: &mut [u16; 64],
-    prices: &[u16; 64],
-    own: &[u16; 64],
-    bids: &[u16],
-    items: usize,
-    k: usize,
-) -> Found
-    requires { Ready items k bids.now prices.now own.now × Unsearched own.now dist.old via.old left.old }
-    ensures { (amount own.now result.next ≡ 0)
-        × Seeking items k bids.now prices.now own.now dist.new via.new left.new result.null result.last result.next }
-{
-    let mut null: u16 = 4095;
-    let mut last: u16 = 0;
-    let low = relax(
-        dist,
-        via,
-        left,
-        prices,
-        bids::row(bids, items, k as u16),
-        4095,
-        0,
-    );
-    let mut next = nearest(dist, left, items, low, null);
-    let mut h = at(own, next, 0);
-    while h != 0 {
-        let line = bids::row(bids, items, h - 1);
-        let reach = enter(dist, via, left, prices, line, next);
-        let nearer = prices::smaller(reach.u, null);
-        last = if_same(nearer, null, last, next);
-        null = nearer;
-        next = nearest(dist, left, items, reach.low, null);
-        h = at(own, next, 0);
-    }
-    Found {
-        null: null,
-        last: last,
-        next: next,
+impl Paths {
+    // The bidder at place k looks for an option: from the nearest item to the next, as long as somebody holds it. Null is always free.
+    fn search(&mut self, outcome: &Outcome, bids: &[u16], items: usize, k: usize) -> Found
+        requires { Ready items k bids.now outcome.now.prices outcome.now.own × Unsearched outcome.now.own self.old.dist self.old.via self.old.left }
+        ensures { (amount outcome.now.own result.next ≡ 0)
+            × Seeking items k bids.now outcome.now.prices outcome.now.own self.new.dist self.new.via self.new.left result.null result.last result.next }
+    {
+        let mut null: u16 = 4095;
+        let mut last: u16 = 0;
+        let low = self.relax(&outcome.prices, bids::row(bids, items, k as u16), 4095, 0);
+        let mut next = self.nearest(items, low, null);
+        let mut h = at(&outcome.own, next, 0);
+        while h != 0 {
+            let line = bids::row(bids, items, h - 1);
+            let reach = self.enter(&outcome.prices, line, next);
+            let nearer = reach.u.min(null);
+            last = if_same(nearer, null, last, next);
+            null = nearer;
+            next = self.nearest(items, reach.low, null);
+            h = at(&outcome.own, next, 0);
+        }
+        Found { null, last, next }
     }
 }
 
@@ -188,100 +187,58 @@ fn search(
 fn numbers(own: &[u16; 64]) -> [u16; 64]
     ensures { AllLeft own.now result }
 {
-    let mut left = [0u16; 64];
-    let mut x: usize = 0;
-    while x < 64 {
-        left[x] = if_same(own[x], 0, (x + 65) as u16, (x + 1) as u16);
-        x += 1;
-    }
-    left
+    array::from_fn(|x| if_same(own[x], 0, (x + 65) as u16, (x + 1) as u16))
 }
 
 // Each price goes up by as much as the level is above its distance.
 fn raise(prices: &mut [u16; 64], dist: &[u16; 64], items: usize, level: u16)
-    requires { (items ≤ 64) × (level ≤ 4095) × Small prices.old × (length prices.old ≡ 64) }
+    requires { (items ≤ 64) × (level ≤ 4095) × Small prices.old }
     ensures { Changed items (λ x. get_or prices.old x 0 + (level - get_or dist.now x 0)) prices.old prices.new }
 {
-    let mut i: usize = 0;
-    while i < items {
-        prices[i] = prices[i] + prices::over(level, dist[i]);
-        i += 1;
+    for i in 0..items {
+        prices[i] += level.saturating_sub(dist[i]);
     }
 }
 
 // Each item on the way back from the first goes to who reached it: the holder of the next, and bidder k at the end.
 fn shift(own: &mut [u16; 64], via: &[u16; 64], first: u16, k: u16)
     requires { Chained k own.old via.now first }
-    ensures { (length own.new ≡ 64) × ((s : Chained k own.old via.now first) → Shifted s own.new) }
+    ensures { (s : Chained k own.old via.now first) → Shifted s own.new }
 {
     let mut x = first;
     while x != 0 {
-        let place = (x - 1) as usize;
+        let place = usize::from(x - 1);
         let y = via[place];
         own[place] = at(own, y, k + 1);
         x = y;
     }
 }
 
-// The bidder at place k is put in.
-fn put_in(prices: &mut [u16; 64], own: &mut [u16; 64], bids: &[u16], items: usize, k: usize)
-    requires { Ready items k bids.now prices.old own.old }
-    ensures { (r : Ready items k bids.now prices.old own.old) (on : ℕ → Bool) → Joins k r.on on
-        → Put items bids.now on prices.old own.old prices.new own.new }
-{
-    let mut dist = [16384u16; 64];
-    let mut via = [0u16; 64];
-    let mut left = numbers(own);
-    let s = search(&mut dist, &mut via, &mut left, prices, own, bids, items, k);
-    let level = at(&dist, s.next, s.null);
-    let first = if_same(s.next, 0, s.last, s.next);
-    raise(prices, &dist, items, level);
-    shift(own, &via, first, k as u16);
-}
-
-// The bidder at place k is put in if they wait.
-fn put_waiting(
-    prices: &mut [u16; 64],
-    own: &mut [u16; 64],
-    bids: &[u16],
-    items: usize,
-    k: usize,
-    waits: bool,
-)
-    requires { waits ≡ true → Ready items k bids.now prices.old own.old }
-    ensures { (waits ≡ false → (prices.new ≡ prices.old) × (own.new ≡ own.old))
-        × (waits ≡ true → (r : Ready items k bids.now prices.old own.old) (on : ℕ → Bool) → Joins k r.on on
-        → Put items bids.now on prices.old own.old prices.new own.new) }
-{
-    if !waits {
-        return;
+impl Outcome {
+    // The bidder at place k is put in.
+    fn put_in(&mut self, bids: &[u16], items: usize, k: usize)
+        requires { Ready items k bids.now self.old.prices self.old.own }
+        ensures { (r : Ready items k bids.now self.old.prices self.old.own) (on : ℕ → Bool) → Joins k r.on on
+            → Put items bids.now on self.old.prices self.old.own self.new.prices self.new.own }
+    {
+        let mut paths = Paths::new(numbers(&self.own));
+        let s = paths.search(self, bids, items, k);
+        let level = at(&paths.dist, s.next, s.null);
+        let first = if_same(s.next, 0, s.last, s.next);
+        raise(&mut self.prices, &paths.dist, items, level);
+        shift(&mut self.own, &paths.via, first, k as u16);
     }
-    put_in(prices, own, bids, items, k);
-}
 
-// The bidders who wait are put in, one after the other.
-fn put_all(
-    prices: &mut [u16; 64],
-    own: &mut [u16; 64],
-    bids: &[u16],
-    items: usize,
-    bidders: usize,
-    waiting: u64,
-)
-    requires { Standing items bidders bids.now (others bidders waiting) prices.old own.old }
-    ensures { Put items bids.now (everyone bidders) prices.old own.old prices.new own.new }
-{
-    let mut k: usize = 0;
-    while k < bidders {
-        put_waiting(
-            prices,
-            own,
-            bids,
-            items,
-            k,
-            sets::has_bidder(waiting, k + 1),
-        );
-        k += 1;
+    // The bidders who wait are put in, one after the other.
+    fn put_all(&mut self, bids: &[u16], items: usize, bidders: usize, waiting: u64)
+        requires { Standing items bidders bids.now (others bidders waiting) self.old.prices self.old.own }
+        ensures { Put items bids.now (everyone bidders) self.old.prices self.old.own self.new.prices self.new.own }
+    {
+        for k in 0..bidders {
+            if waiting.has(k + 1) {
+                self.put_in(bids, items, k);
+            }
+        }
     }
 }
 
@@ -289,88 +246,56 @@ fn put_all(
 
 // Line i of the transposed table: what is bid for item i + 1, bidder after bidder.
 fn transpose_line(table: &mut [u16; 2048], bids: &[u16], items: usize, bidders: usize, i: usize)
-    requires { Fit items bidders bids.now × (i < items) × (length table.old ≡ 2048) × Small table.old }
+    requires { Fit items bidders bids.now × (i < items) × Small table.old }
     ensures { TransposedTo items bidders bids.now i bidders table.old table.new }
 {
     let start = i * bidders;
-    let mut b: usize = 0;
-    while b < bidders {
+    for b in 0..bidders {
         table[start + b] = bids[b * items + i];
-        b += 1;
     }
 }
 
 // The transposed table of bids.
 fn transposed(bids: &[u16], items: usize, bidders: usize) -> [u16; 2048]
     requires { Fit items bidders bids.now }
-    ensures { (length result ≡ 2048) × Small result × Transposed items bidders bids.now items result }
+    ensures { Small result × Transposed items bidders bids.now items result }
 {
     let mut table = [0u16; 2048];
-    let mut i: usize = 0;
-    while i < items {
+    for i in 0..items {
         transpose_line(&mut table, bids, items, bidders, i);
-        i += 1;
     }
     table
 }
 
-// The bidder at place b takes their option, if it is an item: its price is what their surplus leaves of their bid.
-fn give(
-    prices: &mut [u16; 64],
-    own: &mut [u16; 64],
-    line: &[u16],
-    option: u16,
-    surplus: u16,
-    b: usize,
-)
-    requires { (option ≤ length line.now) × (length line.now ≤ 64) × (b < 64) × (0 < option → surplus ≤ get_or line.now (option - 1) 0) }
-    ensures { (option ≡ 0 → (prices.new ≡ prices.old) × (own.new ≡ own.old))
-        × (0 < option → (prices.new ≡ set prices.old (option - 1) (get_or line.now (option - 1) 0 - surplus))
-        × (own.new ≡ set own.old (option - 1) (b + 1))) }
-{
-    if option == 0 {
-        return;
+impl Outcome {
+    // The bidder at place b takes their option, if it is an item: its price is what their surplus leaves of their bid.
+    fn give(&mut self, line: &[u16], option: u16, surplus: u16, b: usize)
+        requires { (option ≤ length line.now) × (length line.now ≤ 64) × (b < 64) × (0 < option → surplus ≤ get_or line.now (option - 1) 0) }
+        ensures { (option ≡ 0 → (self.new.prices ≡ self.old.prices) × (self.new.own ≡ self.old.own))
+            × (0 < option → (self.new.prices ≡ set self.old.prices (option - 1) (get_or line.now (option - 1) 0 - surplus))
+            × (self.new.own ≡ set self.old.own (option - 1) (b + 1))) }
+    {
+        if option == 0 {
+            return;
+        }
+        let x = usize::from(option - 1);
+        self.prices[x] = line[x] - surplus;
+        self.own[x] = (b + 1) as u16;
     }
-    let x = (option - 1) as usize;
-    prices[x] = line[x] - surplus;
-    own[x] = (b + 1) as u16;
-}
 
-// Every bidder takes their option.
-fn give_all(
-    prices: &mut [u16; 64],
-    own: &mut [u16; 64],
-    surplus: &[u16; 64],
-    option: &[u16; 64],
-    bids: &[u16],
-    items: usize,
-    bidders: usize,
-)
-    requires { Options items bidders bids.now surplus.now option.now × (prices.old ≡ replicate 64 0) × (own.old ≡ replicate 64 0) }
-    ensures { Given items bids.now surplus.now option.now bidders prices.new own.new }
-{
-    let mut b: usize = 0;
-    while b < bidders {
-        give(
-            prices,
-            own,
-            bids::row(bids, items, b as u16),
-            option[b],
-            surplus[b],
-            b,
-        );
-        b += 1;
+    // Every bidder takes their option. The other way round it is the bidders who have a price, their surplus, and are held by an item, their option.
+    fn give_all(&mut self, reverse: &Outcome, bids: &[u16], items: usize, bidders: usize)
+        requires { Options items bidders bids.now reverse.now.prices reverse.now.own × (self.old.prices ≡ replicate 64 0) × (self.old.own ≡ replicate 64 0) }
+        ensures { Given items bids.now reverse.now.prices reverse.now.own bidders self.new.prices self.new.own }
+    {
+        for b in 0..bidders {
+            let line = bids::row(bids, items, b as u16);
+            self.give(line, reverse.own[b], reverse.prices[b], b);
+        }
     }
 }
 
-// Prices, and who holds each item.
-#[derive(Drop)]
-struct Outcome {
-    prices: [u16; 64],
-    own: [u16; 64],
-}
-
-const EVERYONE: u64 = 0xffff_ffff_ffff_ffff;
+const EVERYONE: u64 = u64::MAX;
 
 // Prices that balance: the items are put in over the bidders, whose prices are then their surpluses.
 fn balance(bids: &[u16], items: usize, bidders: usize) -> Outcome
@@ -378,41 +303,20 @@ fn balance(bids: &[u16], items: usize, bidders: usize) -> Outcome
     ensures { Balanced items bidders bids.now (replicate 64 0) result.prices result.own }
 {
     let table = transposed(bids, items, bidders);
-    let mut surplus = [0u16; 64];
-    let mut option = [0u16; 64];
-    put_all(
-        &mut surplus,
-        &mut option,
-        &table[0..2048],
-        bidders,
-        items,
-        EVERYONE,
-    );
-    let mut prices = [0u16; 64];
-    let mut own = [0u16; 64];
-    give_all(
-        &mut prices,
-        &mut own,
-        &surplus,
-        &option,
-        bids,
-        items,
-        bidders,
-    );
-    Outcome {
-        prices: prices,
-        own: own,
-    }
+    let mut reverse = Outcome {
+        prices: [0; 64],
+        own: [0; 64],
+    };
+    reverse.put_all(&table, bidders, items, EVERYONE);
+    let mut outcome = Outcome {
+        prices: [0; 64],
+        own: [0; 64],
+    };
+    outcome.give_all(&reverse, bids, items, bidders);
+    outcome
 }
 
 // ---- down to the least prices
-
-// A holder's number, where a set is made.
-fn wide(x: u16) -> usize
-    ensures { result ≡ x }
-{
-    x as usize
-}
 
 // The bidders who hold an item.
 fn seated(own: &[u16; 64], items: usize) -> u64
@@ -420,197 +324,134 @@ fn seated(own: &[u16; 64], items: usize) -> u64
     ensures { Seated items own.now result }
 {
     let mut seats: u64 = 0;
-    let mut x: usize = 0;
-    while x < items {
-        seats = sets::with_bidder(seats, wide(own[x]));
-        x += 1;
+    for &holder in &own[..items] {
+        seats = seats.with(usize::from(holder));
     }
     seats
 }
 
 // One more line of offers.
 fn offer(best: &mut [u16; 64], line: &[u16])
-    requires { (length line.now ≤ 64) × (length best.old ≡ 64) }
+    requires { length line.now ≤ 64 }
     ensures { Changed (length line.now) (λ x. max (get_or best.old x 0) (get_or line.now x 0)) best.old best.new }
 {
-    let mut x: usize = 0;
-    while x < line.len() {
-        best[x] = prices::larger(best[x], line[x]);
-        x += 1;
+    for (x, &bid) in line.iter().enumerate() {
+        best[x] = best[x].max(bid);
     }
-}
-
-// The same, but of who holds an item.
-fn offer_unless(best: &mut [u16; 64], line: &[u16], holds: bool)
-    requires { (length line.now ≤ 64) × (length best.old ≡ 64) }
-    ensures { (holds ≡ true → best.new ≡ best.old)
-        × (holds ≡ false → Changed (length line.now) (λ x. max (get_or best.old x 0) (get_or line.now x 0)) best.old best.new) }
-{
-    if holds {
-        return;
-    }
-    offer(best, line);
 }
 
 // What keeps the prices up from outside: the base, which is given, and the bids of those who hold nothing.
 fn offers(best: &mut [u16; 64], seats: u64, bids: &[u16], items: usize, bidders: usize)
-    requires { Table items bidders bids.now × (length best.old ≡ 64) }
+    requires { Table items bidders bids.now }
     ensures { Offered items bids.now seats bidders best.old best.new }
 {
-    let mut b: usize = 0;
-    while b < bidders {
-        offer_unless(
-            best,
-            bids::row(bids, items, b as u16),
-            sets::has_bidder(seats, b + 1),
-        );
-        b += 1;
+    for b in 0..bidders {
+        if !seats.has(b + 1) {
+            offer(best, bids::row(bids, items, b as u16));
+        }
     }
 }
 
 // The items that are held are left.
+// Stays: one function for this and `numbers` would take what gives a free item's number, and say no more in less.
 fn held(own: &[u16; 64]) -> [u16; 64]
     ensures { HeldLeft own.now result }
 {
-    let mut left = [0u16; 64];
-    let mut x: usize = 0;
-    while x < 64 {
-        left[x] = if_same(own[x], 0, 0, (x + 1) as u16);
-        x += 1;
-    }
-    left
+    array::from_fn(|x| if_same(own[x], 0, 0, (x + 1) as u16))
 }
 
-// How far each price can fall: from what keeps it up outside, and along the holders, from the nearest item to the next, until none is left.
-fn descend(
-    dist: &mut [u16; 64],
-    via: &mut [u16; 64],
-    left: &mut [u16; 64],
-    prices: &[u16; 64],
-    own: &[u16; 64],
-    best: &[u16],
-    bids: &[u16],
-    items: usize,
-)
-    requires { Descends items bids.now prices.now own.now best.now × (dist.old ≡ replicate 64 16384) × (via.old ≡ replicate 64 0) × HeldLeft own.now left.old }
-    ensures { Descended items bids.now prices.now own.now best.now dist.new via.new }
-{
-    let low = relax(dist, via, left, prices, best, 0, 0);
-    let mut next = nearest(dist, left, items, low, 65535);
-    while next != 0 {
-        let h = at(own, next, 0);
-        let line = bids::row(bids, items, h - 1);
-        let reach = enter(dist, via, left, prices, line, next);
-        next = nearest(dist, left, items, reach.low, 65535);
+impl Paths {
+    // How far each price can fall: from what keeps it up outside, and along the holders, from the nearest item to the next, until none is left.
+    fn descend(&mut self, outcome: &Outcome, best: &[u16], bids: &[u16], items: usize)
+        requires { Descends items bids.now outcome.now.prices outcome.now.own best.now
+            × (self.old.dist ≡ replicate 64 16384) × (self.old.via ≡ replicate 64 0) × HeldLeft outcome.now.own self.old.left }
+        ensures { Descended items bids.now outcome.now.prices outcome.now.own best.now self.new.dist self.new.via }
+    {
+        let low = self.relax(&outcome.prices, best, 0, 0);
+        let mut next = self.nearest(items, low, u16::MAX);
+        while next != 0 {
+            let h = at(&outcome.own, next, 0);
+            let line = bids::row(bids, items, h - 1);
+            let reach = self.enter(&outcome.prices, line, next);
+            next = self.nearest(items, reach.low, u16::MAX);
+        }
     }
 }
 
 // Each price goes down by its distance.
 fn lower(prices: &mut [u16; 64], dist: &[u16; 64], items: usize)
-    requires { (items ≤ 64) × (length prices.old ≡ 64) }
+    requires { items ≤ 64 }
     ensures { Changed items (λ x. get_or prices.old x 0 - get_or dist.now x 0) prices.old prices.new }
 {
-    let mut i: usize = 0;
-    while i < items {
-        prices[i] = prices::over(prices[i], dist[i]);
-        i += 1;
+    for i in 0..items {
+        prices[i] = prices[i].saturating_sub(dist[i]);
     }
 }
 
-// Prices that balance above the base fall to the least that do.
-fn fall(
-    prices: &mut [u16; 64],
-    own: &[u16; 64],
-    base: [u16; 64],
-    bids: &[u16],
-    items: usize,
-    bidders: usize,
-)
-    requires { Balanced items bidders bids.now base prices.old own.now × (length base ≡ 64) }
-    ensures { Lowered items bidders bids.now base prices.new own.now }
-{
-    let mut best = base;
-    offers(&mut best, seated(own, items), bids, items, bidders);
-    let mut dist = [16384u16; 64];
-    let mut via = [0u16; 64];
-    let mut left = held(own);
-    descend(
-        &mut dist,
-        &mut via,
-        &mut left,
-        prices,
-        own,
-        &best[..items],
-        bids,
-        items,
-    );
-    lower(prices, &dist, items);
+impl Outcome {
+    // Prices that balance above the base fall to the least that do.
+    fn fall(&mut self, base: [u16; 64], bids: &[u16], items: usize, bidders: usize)
+        requires { Balanced items bidders bids.now base self.old.prices self.old.own }
+        ensures { Lowered items bidders bids.now base self.new.prices self.new.own }
+    {
+        let mut best = base;
+        offers(&mut best, seated(&self.own, items), bids, items, bidders);
+        let mut paths = Paths::new(held(&self.own));
+        paths.descend(self, &best[..items], bids, items);
+        lower(&mut self.prices, &paths.dist, items);
+    }
 }
 
 // ---- the close and the turn
 
-// Where the start is above the price at place x, the price goes up to it, and who holds the item waits.
-fn lift(prices: &mut [u16; 64], own: &mut [u16; 64], start: u16, x: usize, waiting: u64) -> u64
-    requires { x < 64 }
-    ensures { (start ≤ get_or prices.old x 0 → (prices.new ≡ prices.old) × (own.new ≡ own.old) × (result ≡ waiting))
-        × (get_or prices.old x 0 < start → (prices.new ≡ set prices.old x start) × (own.new ≡ set own.old x 0)
-        × (result ≡ set_of 64 (λ k. has waiting k || eqb k (get_or own.old x 0)))) }
-{
-    if start <= prices[x] {
-        return waiting;
+impl Outcome {
+    // Where the start is above the price at place x, the price goes up to it, and who holds the item waits.
+    fn lift(&mut self, start: u16, x: usize, waiting: u64) -> u64
+        requires { x < 64 }
+        ensures { (start ≤ get_or self.old.prices x 0 → (self.new.prices ≡ self.old.prices) × (self.new.own ≡ self.old.own) × (result ≡ waiting))
+            × (get_or self.old.prices x 0 < start → (self.new.prices ≡ set self.old.prices x start) × (self.new.own ≡ set self.old.own x 0)
+            × (result ≡ set_of 64 (λ k. has waiting k || eqb k (get_or self.old.own x 0)))) }
+    {
+        if start <= self.prices[x] {
+            return waiting;
+        }
+        let holder = usize::from(self.own[x]);
+        self.prices[x] = start;
+        self.own[x] = 0;
+        waiting.with(holder)
     }
-    let holder = wide(own[x]);
-    prices[x] = start;
-    own[x] = 0;
-    sets::with_bidder(waiting, holder)
-}
 
-// Every price goes up to the start, where that is higher. Answers who waits then.
-fn lift_all(prices: &mut [u16; 64], own: &mut [u16; 64], start: &[u16; 32]) -> u64
-    requires { (length prices.old ≡ 64) × (length own.old ≡ 64) }
-    ensures { Lifted 32 start.now prices.old own.old prices.new own.new result }
-{
-    let mut waiting: u64 = 0;
-    let mut x: usize = 0;
-    while x < 32 {
-        waiting = lift(prices, own, start[x], x, waiting);
-        x += 1;
+    // Every price goes up to the start, where that is higher. Answers who waits then.
+    fn lift_all(&mut self, start: &[u16; 32]) -> u64
+        ensures { Lifted 32 start.now self.old.prices self.old.own self.new.prices self.new.own result }
+    {
+        let mut waiting: u64 = 0;
+        for (x, &price) in start.iter().enumerate() {
+            waiting = self.lift(price, x, waiting);
+        }
+        waiting
     }
-    waiting
-}
 
-// From the least prices from some base up to the least from the start up: those whose item costs more at the start are put in again.
-fn rise(
-    prices: &mut [u16; 64],
-    own: &mut [u16; 64],
-    start: &[u16; 32],
-    bids: &[u16],
-    items: usize,
-    bidders: usize,
-)
-    requires { ((base : List ℕ) × From items bidders bids.now base prices.old own.old × Below base start.now) × Starts items start.now }
-    ensures { From items bidders bids.now start.now prices.new own.new }
-{
-    let waiting = lift_all(prices, own, start);
-    if waiting == 0 {
-        return;
+    // From the least prices from some base up to the least from the start up: those whose item costs more at the start are put in again.
+    fn rise(&mut self, start: &[u16; 32], bids: &[u16], items: usize, bidders: usize)
+        requires { ((base : List ℕ) × From items bidders bids.now base self.old.prices self.old.own × Below base start.now) × Starts items start.now }
+        ensures { From items bidders bids.now start.now self.new.prices self.new.own }
+    {
+        let waiting = self.lift_all(start);
+        if waiting == 0 {
+            return;
+        }
+        let base = self.prices;
+        self.put_all(bids, items, bidders, waiting);
+        self.fall(base, bids, items, bidders);
     }
-    let base = *prices;
-    put_all(prices, own, bids, items, bidders, waiting);
-    fall(prices, own, base, bids, items, bidders);
 }
 
 // The first 32 places.
 fn narrow(prices: &[u16; 64]) -> [u16; 32]
     ensures { result ≡ places 32 prices.now }
 {
-    let mut first = [0u16; 32];
-    let mut x: usize = 0;
-    while x < 32 {
-        first[x] = prices[x];
-        x += 1;
-    }
-    first
+    array::from_fn(|x| prices[x])
 }
 
 // The closing prices, and the prices at the turn.
@@ -647,17 +488,13 @@ pub fn close_and_turn(
     if bids::refusal_above(items, bidders, start, floors, bids) != 0 {
         return nothing();
     }
-    let b = balance(bids, items, bidders);
-    let mut prices = b.prices;
-    let mut own = b.own;
-    fall(&mut prices, &own, [0; 64], bids, items, bidders);
-    let low = prices::in_places(floors);
-    rise(&mut prices, &mut own, &low, bids, items, bidders);
-    let close = narrow(&prices);
-    let first = prices::in_places(start);
-    rise(&mut prices, &mut own, &first, bids, items, bidders);
+    let mut outcome = balance(bids, items, bidders);
+    outcome.fall([0; 64], bids, items, bidders);
+    outcome.rise(&prices::in_places(floors), bids, items, bidders);
+    let close = narrow(&outcome.prices);
+    outcome.rise(&prices::in_places(start), bids, items, bidders);
     Ends {
-        close: close,
-        turn: narrow(&prices),
+        close,
+        turn: narrow(&outcome.prices),
     }
 }

@@ -3,7 +3,7 @@ use Prim.Native.Nat.{ℕ, zero, suc, ◌+◌, ◌*◌, ◌^◌, ◌≤◌, ◌<�
 use mathlib.Core.Path.{◌≡◌, refl, sym, ap, ◌∙◌, subst}
 use mathlib.Core.Bool.{Bool, true, false, cond}
 use mathlib.Core.List.{List, [], ◌∷◌, ◌++◌}
-use mathlib.Core.Option.{none, some, some-injective, none-ne-some}
+use Rattle.std.specs.Prelude.{None, Some}
 use native.Mathlib.Omega.{arith}
 use native.Mathlib.Nat.{not-suc-le-zero, add-zero}
 use native.Mathlib.Decide.{dec_lt}
@@ -18,14 +18,15 @@ use Rattle.lines.specs.Lines.{newline, joined}
 use Rattle.lines.specs.Reading.{numbers_at, ends_at, line_at}
 use Rattle.lines.proofs.Lengths.{joined_length}
 use Rattle.lines.proofs.Numbers.{Read, numbers-at, numbers-read}
+use Rattle.std.proofs.lemmas.Option.{none-some}
 
 -- k numbers of c digits each take c * k bytes
 digits : (k c : ℕ) (g : ℕ → ℕ) → length (joined k (λ i. hex c (g i))) ≡ c * k
 digits k c g = joined_length k c (λ i. hex c (g i)) (λ i. hex-length c (g i))
 
-kept : (t : Bool) (xs ys : List ℕ) → cond t (some xs) none ≡ some ys → (t ≡ true) × (xs ≡ ys)
-kept true xs ys e = (refl, some-injective xs ys e)
-kept false xs ys e = absurd (none-ne-some ys e)
+kept : (t : Bool) (xs ys : List ℕ) → cond t (Some xs) None ≡ Some ys → (t ≡ true) × (xs ≡ ys)
+kept true xs ys e = (refl, cc)
+kept false xs ys e = absurd (none-some ys e)
 
 -- byte 0a stands where a line ends
 ended : (bytes : List ℕ) (at : ℕ) → ends_at bytes at ≡ true → Stands bytes at newline
@@ -60,21 +61,21 @@ each_stands bytes c (suc n) f h at s (suc k) l =
 
 module _ (bytes : List ℕ) (k c at : ℕ) where
   pub line-at : (g : ℕ → ℕ) → ((i : ℕ) → i < k → g i < 16 ^ c) → Stands bytes at (joined k (λ i. hex c (g i)) ++ newline)
-      → line_at k c bytes at ≡ some (tabulate k g 0)
+      → line_at k c bytes at ≡ Some (tabulate k g 0)
   unfolding line_at
   line-at g h s =
       let xs : List ℕ = tabulate k g 0 in
       let f = front bytes at (joined k (λ i. hex c (g i))) newline s in
       let b : Stands bytes (at + c * k) newline =
       subst (λ (j : ℕ). Stands bytes (at + j) newline) (digits k c g) (back bytes at (joined k (λ i. hex c (g i))) newline s) in
-      gives (numbers_at k c bytes at) (λ ys. cond (ends_at bytes (at + c * k)) (some ys) none) xs (numbers-at bytes k c at g h f)
-      ∙ ap (λ (t : Bool). cond t (some xs) none) (ends bytes (at + c * k) b)
+      gives (numbers_at k c bytes at) (λ ys. cond (ends_at bytes (at + c * k)) (Some ys) None) xs (numbers-at bytes k c at g h f)
+      ∙ ap (λ (t : Bool). cond t (Some xs) None) (ends bytes (at + c * k) b)
 
-  pub line_read : (xs : List ℕ) → at ≤ length bytes → line_at k c bytes at ≡ some xs
+  pub line_read : (xs : List ℕ) → at ≤ length bytes → line_at k c bytes at ≡ Some xs
       → Read bytes at k c xs × Stands bytes at (joined k (λ i. hex c (get_or xs i 0)) ++ newline)
   unfolding line_at
   line_read xs l e =
-      let g = gave (numbers_at k c bytes at) (λ ys. cond (ends_at bytes (at + c * k)) (some ys) none) xs e in
+      let g = gave (numbers_at k c bytes at) (λ ys. cond (ends_at bytes (at + c * k)) (Some ys) None) xs e in
       let w = kept (ends_at bytes (at + c * k)) g.0 xs g.2 in
       let r : Read bytes at k c xs = subst (λ (zs : List ℕ). Read bytes at k c zs) w.1 (numbers-read bytes k c at g.0 l g.1) in (
         r,

@@ -3,7 +3,7 @@
 use Prim.Native.Nat.{ℕ, zero, suc, ◌+◌, ◌*◌, ◌^◌, ◌<◌}
 use mathlib.Core.Path.{◌≡◌, sym, ap, ◌∙◌, subst}
 use mathlib.Core.List.{List, [], ◌∷◌, ◌++◌, append-nil}
-use mathlib.Core.Option.{Option, some}
+use Rattle.std.specs.Prelude.{Option, Some}
 use native.Mathlib.Omega.{arith}
 use native.Mathlib.Nat.{not-suc-le-zero}
 use lib.ListN.{length, get_or, length-append}
@@ -27,8 +27,8 @@ both_small u d b h l zero k = h
 both_small u d b h l (suc zero) k = l
 both_small u d b h l (suc (suc i)) k = absurd (not-suc-le-zero {n = i} (omega arith))
 
-all_said : (a b c : Option (List ℕ)) (r p o : List ℕ) → a ≡ some r → b ≡ some p → c ≡ some o
-    → ◌≡◌ {A = Option Said} (a >>= λ r. b >>= λ p. c >>= λ o. some (record { rounds = r; prices = p; options = o })) (some (record { rounds = r; prices = p; options = o }))
+all_said : (a b c : Option (List ℕ)) (r p o : List ℕ) → a ≡ Some r → b ≡ Some p → c ≡ Some o
+    → ◌≡◌ {A = Option Said} (a >>= λ r. b >>= λ p. c >>= λ o. Some (record { rounds = r; prices = p; options = o })) (Some (record { rounds = r; prices = p; options = o }))
 all_said a b c r p o e f g = gives a _ r e ∙ gives b _ p f ∙ gives c _ o g
 
 module _ (m n ups downs : ℕ) (prices options : List ℕ) (hu : ups < 16 ^ 6) (hd : downs < 16 ^ 6)
@@ -41,7 +41,7 @@ module _ (m n ups downs : ℕ) (prices options : List ℕ) (hu : ups < 16 ^ 6) (
 
   -- in any bytes that begin with the three lines
   read-front : (bytes : List ℕ) → Stands bytes 0 (closing_sheet m n ups downs prices options)
-      → read_closing m n bytes ≡ some (record { rounds = ups ∷ downs ∷ []; prices = places m prices; options = places n options })
+      → read_closing m n bytes ≡ Some (record { rounds = ups ∷ downs ∷ []; prices = places m prices; options = places n options })
   unfolding read_closing places tabulate
   read-front bytes s =
       let first : List ℕ = hex 6 ups ++ hex 6 downs ++ newline in
@@ -54,21 +54,21 @@ module _ (m n ups downs : ℕ) (prices options : List ℕ) (hu : ups < 16 ^ 6) (
       let e₃ : 0 + length (first ++ second) ≡ 14 + 4 * m =
       omega (arith, length-append first second, rounds-length ups downs, line-length m 4 prices) in
       let s₃ : Stands bytes (14 + 4 * m) third = subst (λ (j : ℕ). Stands bytes j third) e₃ (back bytes 0 (first ++ second) third all) in
-      let l₁ : line_at 2 6 bytes 0 ≡ some (ups ∷ downs ∷ []) =
+      let l₁ : line_at 2 6 bytes 0 ≡ Some (ups ∷ downs ∷ []) =
       line-at bytes 2 6 0 (λ i. get_or (ups ∷ downs ∷ []) i 0) (both_small ups downs (16 ^ 6) hu hd)
       (subst (λ (vs : List ℕ). Stands bytes 0 vs) (two ups downs) s₁) in
-      let l₂ : line_at m 4 bytes 13 ≡ some (places m prices) = line-at bytes m 4 13 (λ k. get_or prices k 0) hp s₂ in
-      let l₃ : line_at n 2 bytes (14 + 4 * m) ≡ some (places n options) = line-at bytes n 2 (14 + 4 * m) (λ x. get_or options x 0) ho s₃ in
+      let l₂ : line_at m 4 bytes 13 ≡ Some (places m prices) = line-at bytes m 4 13 (λ k. get_or prices k 0) hp s₂ in
+      let l₃ : line_at n 2 bytes (14 + 4 * m) ≡ Some (places n options) = line-at bytes n 2 (14 + 4 * m) (λ x. get_or options x 0) ho s₃ in
       all_said (line_at 2 6 bytes 0) (line_at m 4 bytes 13) (line_at n 2 bytes (14 + 4 * m)) (ups ∷ downs ∷ []) (places m prices) (places n options) l₁ l₂ l₃
 
   pub read_back : read_closing m n (closing_sheet m n ups downs prices options)
-      ≡ some (record { rounds = ups ∷ downs ∷ []; prices = places m prices; options = places n options })
+      ≡ Some (record { rounds = ups ∷ downs ∷ []; prices = places m prices; options = places n options })
   read_back = read-front three (itself three)
 
   -- and the four lines of a sealed auction say the gains too
   pub sealed_back : (gains : List ℕ) → ((b : ℕ) → b < n → get_or gains b 0 < 16 ^ 4)
       → read_sealed m n (sealed_sheet m n ups downs prices options gains)
-      ≡ some (record { said = record { rounds = ups ∷ downs ∷ []; prices = places m prices; options = places n options }; gains = places n gains })
+      ≡ Some (record { said = record { rounds = ups ∷ downs ∷ []; prices = places m prices; options = places n options }; gains = places n gains })
   unfolding read_sealed sealed_sheet amounts_line closing_length places
   sealed_back gains hg =
       let fourth : List ℕ = joined n (λ b. hex 4 (get_or gains b 0)) ++ newline in

@@ -1,5 +1,5 @@
 -- The lines, written one after the other, are the closing sheet; and where it is not written, nothing changes. Assumes nothing.
-use Prim.Native.Nat.{ℕ, ◌+◌, ◌*◌, ◌≤◌, ◌<◌}
+use Prim.Native.Nat.{ℕ, ◌+◌, ◌*◌, ◌≤◌}
 use mathlib.Core.Path.{◌≡◌, refl, sym, ap, ◌∙◌}
 use mathlib.Core.Bool.{Bool, true, false, ◌&&◌, cond}
 use mathlib.Core.List.{List, ◌++◌}
@@ -7,7 +7,7 @@ use native.Mathlib.Omega.{arith}
 use lib.Dec.{leb}
 use lib.ListN.{length, get_or, length-append}
 use lib.Seq.{sets}
-use borrow.Author.Tests.{le-leb, lt-leb, leb-true}
+use borrow.Author.Tests.{le-leb, leb-true}
 use Rattle.sets.proofs.Counting.{and_left, and_right, and_both}
 use Rattle.digits.specs.Digits.{hex}
 use Rattle.lines.specs.Lines.{newline, joined, amounts_line, closing_sheet, sealed_sheet, closing_length, sealed_length, few_enough, bytes_of, written_to, writes, after_writing, has_room}
@@ -29,14 +29,6 @@ unfolding few_enough
 few-make m n l k = and_both (leb m 32) (leb n 64) (le-leb m 32 l) (le-leb n 64 k)
 
 -- by the code's tests
-pub many-items : (m n : ℕ) → 32 < m → few_enough m n ≡ false
-unfolding few_enough
-many-items m n h = simp (lt-leb m 32 h)
-
-pub few-items : (m n : ℕ) → m ≤ 32 → few_enough m n ≡ leb n 64
-unfolding few_enough
-few-items m n l = simp (le-leb m 32 l)
-
 pub bytes-by : (m n long : ℕ) (t : Bool) → few_enough m n ≡ t → bytes_of m n long ≡ cond t long 0
 unfolding bytes_of
 bytes-by m n long t e = ap (λ (x : Bool). cond x long 0) e
@@ -133,14 +125,6 @@ module _ (m n ups downs : ℕ) (prices options out : List ℕ) where
       ∙ afterwards m n (sealed_sheet m n ups downs prices options gains) (sealed_length m n) (sealed-length m n ups downs prices options gains) out true w
 
 -- ---- the tests on the room of a line of prices
-
-pub many-priced : (m at room : ℕ) → 32 < m → has_room m at room ≡ false
-unfolding has_room
-many-priced m at room l = simp (lt-leb m 32 l)
-
-pub short-priced : (m at room : ℕ) → m ≤ 32 → room < at + (4 * m + 1) → has_room m at room ≡ false
-unfolding has_room
-short-priced m at room l s = simp (le-leb m 32 l, lt-leb (at + (4 * m + 1)) room s)
 
 pub room-priced : (m at room : ℕ) → m ≤ 32 → at + (4 * m + 1) ≤ room → has_room m at room ≡ true
 unfolding has_room

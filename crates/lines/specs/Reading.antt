@@ -1,15 +1,14 @@
 -- Lines read from bytes: document 01, "Sheets"; document 02, #106, for the fourth line. Assumes nothing: these are definitions.
-use Rattle.std.specs.Prelude.{ℕ, zero, suc, ◌+◌, ◌*◌, Bool, cond, List, [], ◌∷◌, eqb, get_or}
-use Rattle.std.proofs.Math.Option.{Option, none, some}
+use Rattle.std.specs.Prelude.{ℕ, zero, suc, ◌+◌, ◌*◌, Bool, cond, List, [], ◌∷◌, eqb, get_or, Option, None, Some}
 use Rattle.digits.specs.Reading.{◌>>=◌, number_at}
 
 -- k numbers of n digits each, one after the other from a place on
 unfoldable pub numbers_at : (k n : ℕ) → List ℕ → ℕ → Option (List ℕ)
-numbers_at zero n bytes at = some []
+numbers_at zero n bytes at = Some []
 numbers_at (suc k) n bytes at = do
   x ← number_at n bytes at
   xs ← numbers_at k n bytes (at + n)
-  some (x ∷ xs)
+  Some (x ∷ xs)
 
 -- byte 0a stands at a place: past the last byte, 0 stands for none
 unfoldable pub ends_at : List ℕ → ℕ → Bool
@@ -19,7 +18,7 @@ ends_at bytes at = eqb (get_or bytes at 0) 10
 unfoldable pub line_at : (k n : ℕ) → List ℕ → ℕ → Option (List ℕ)
 line_at k n bytes at = do
   xs ← numbers_at k n bytes at
-  cond (ends_at bytes (at + n * k)) (some xs) none
+  cond (ends_at bytes (at + n * k)) (Some xs) None
 
 -- what the three lines of a closing sheet say: rounds raised and rounds lowered, the prices, the options
 pub record Said : Type 0 where
@@ -33,7 +32,7 @@ read_closing m n bytes = do
   rounds ← line_at 2 6 bytes 0
   prices ← line_at m 4 bytes 13
   options ← line_at n 2 bytes (14 + 4 * m)
-  some (record { rounds = rounds; prices = prices; options = options })
+  Some (record { rounds = rounds; prices = prices; options = options })
 
 -- what the four lines of a sealed auction's closing sheet say: those three, and the gains
 pub record SaidSealed : Type 0 where
@@ -44,4 +43,4 @@ unfoldable pub read_sealed : (m n : ℕ) → List ℕ → Option SaidSealed
 read_sealed m n bytes = do
   said ← read_closing m n bytes
   gains ← line_at n 4 bytes (15 + 4 * m + 2 * n)
-  some (record { said = said; gains = gains })
+  Some (record { said = said; gains = gains })

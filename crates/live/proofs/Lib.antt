@@ -12,3 +12,4 @@ pub mod Sets
 pub mod Reading
 pub mod Reasons
 pub mod Explaining
+pub mod Refusals

@@ -1,4 +1,4 @@
--- The numbers of a clear, of a report, and of an end before its round is looked for; and a call that gets a number hands the record back as it came.
+-- What the numbers of a report, and of an end before its round is looked for, say where there is none; and a call that gets a number hands the record back as it came.
 -- Assumes nothing.
 use Prim.Native.Nat.{ℕ, zero, suc, ◌-◌, ◌≤◌}
 use mathlib.Core.Path.{◌≡◌, refl, sym, ap, ◌∙◌}
@@ -9,7 +9,7 @@ use lib.IntN.{ℤ}
 use borrow.Author.Tests.{not-false}
 use Rattle.rule.specs.Demand.{Demand}
 use Rattle.rule.specs.Refusal.{Refusal, on, first, bad_bidder}
-use Rattle.rule.proofs.Refusal.{passed, given, first-nil, none, in-range}
+use Rattle.rule.proofs.Refusal.{passed, given, none, in-range}
 use Rattle.reports.specs.Report.{unfit}
 use Rattle.live.specs.Auction.{has_reported, missing, well_formed}
 use Rattle.live.specs.Tables.{bad_tables, tables_fit, unexplained_at, any_unexplained}
@@ -41,45 +41,11 @@ behind (on zero a ∷ xs) ys p e = absurd (true≢false (sym p))
 behind (on (suc n) true ∷ xs) ys p e = absurd (omega arith)
 behind (on (suc n) false ∷ xs) ys p e = behind xs ys p e
 
--- ---- a clear: 11 and 12
-
--- neither
-pub record Stands (r : Auction) : Type 0 where
-  pub formed : well_formed r ≡ true
-  pub running : is_closed r.phase ≡ false
-
-module _ (r : Auction) where
-  -- the number of a call that takes no tables and whose later refusals are `rest`
-  abbrev pub begun : List Refusal → ℕ
-  begun rest = first (on 11 (not (well_formed r)) ∷ on 12 (is_closed r.phase) ∷ rest)
-
-  pub eleven : (rest : List Refusal) → well_formed r ≡ false → 11 ≡ begun rest
-  eleven rest e = sym (given 11 (not (well_formed r)) (on 12 (is_closed r.phase) ∷ rest) (ap not e))
-
-  pub twelve : (rest : List Refusal) → well_formed r ≡ true → is_closed r.phase ≡ true → 12 ≡ begun rest
-  twelve rest e q =
-      sym (passed 11 (not (well_formed r)) (on 12 (is_closed r.phase) ∷ rest) (ap not e) ∙ given 12 (is_closed r.phase) rest q)
-
-  pub later : (rest : List Refusal) → Stands r → first rest ≡ begun rest
-  later rest s =
-      sym (passed 11 (not (well_formed r)) (on 12 (is_closed r.phase) ∷ rest) (ap not s.formed) ∙ passed 12 (is_closed r.phase) rest s.running)
-
-  -- no number: neither
-  pub standing : (rest : List Refusal) → begun rest ≡ 0 → Stands r
-  standing rest e =
-      let a = none 10 (not (well_formed r)) (on 12 (is_closed r.phase) ∷ rest) e in
-      let b = none 11 (is_closed r.phase) rest a.1 in
-      record { formed = not-false (well_formed r) a.0; running = b.0 }
-
 -- ---- 11, 3, 11: record and tables
 
 module _ (r : Auction) (ts : List ℤ) where
   abbrev pub fit_list : List Refusal
   fit_list = on 11 (not (well_formed r)) ∷ on 3 (bad_tables r.bidders ts) ∷ on 11 (not (tables_fit r ts)) ∷ []
-
-  pub unformed : well_formed r ≡ false → 11 ≡ fit_number r ts
-  unfolding fit_number
-  unformed e = sym (given 11 (not (well_formed r)) (on 3 (bad_tables r.bidders ts) ∷ on 11 (not (tables_fit r ts)) ∷ []) (ap not e))
 
   module _ (f : well_formed r ≡ true) where
     past-11 : first (on 3 (bad_tables r.bidders ts) ∷ on 11 (not (tables_fit r ts)) ∷ []) ≡ fit_number r ts
@@ -89,16 +55,6 @@ module _ (r : Auction) (ts : List ℤ) where
     pub wrong-length : bad_tables r.bidders ts ≡ true → 3 ≡ fit_number r ts
     wrong-length e = sym (given 3 (bad_tables r.bidders ts) (on 11 (not (tables_fit r ts)) ∷ []) e) ∙ past-11
 
-    module _ (l : bad_tables r.bidders ts ≡ false) where
-      past-3 : first (on 11 (not (tables_fit r ts)) ∷ []) ≡ fit_number r ts
-      past-3 = sym (passed 3 (bad_tables r.bidders ts) (on 11 (not (tables_fit r ts)) ∷ []) l) ∙ past-11
-
-      pub bad-table : tables_fit r ts ≡ false → 11 ≡ fit_number r ts
-      bad-table e = sym (given 11 (not (tables_fit r ts)) [] (ap not e)) ∙ past-3
-
-      pub all-fit : tables_fit r ts ≡ true → 0 ≡ fit_number r ts
-      all-fit e = sym (passed 11 (not (tables_fit r ts)) [] (ap not e) ∙ first-nil) ∙ past-3
-
   -- no number: record and tables fit
   pub fits : fit_number r ts ≡ 0 → Fit r ts
   unfolding fit_number
@@ -107,9 +63,6 @@ module _ (r : Auction) (ts : List ℤ) where
       let b = none 2 (bad_tables r.bidders ts) (on 11 (not (tables_fit r ts)) ∷ []) a.1 in
       let d = none 10 (not (tables_fit r ts)) [] b.1 in
       record { formed = not-false (well_formed r) a.0; long = b.0; fit = not-false (tables_fit r ts) d.0 }
-
-  pub fits_not : Fit r ts → fit_number r ts ≡ 0
-  fits_not f = sym (all-fit f.formed f.long f.fit)
 
 -- ---- a report: then 12, 7, 13, 8, 19
 
@@ -134,41 +87,6 @@ module _ (r : Auction) (ts : List ℤ) (b : ℕ) (d : Demand) where
   past-fit : fit_number r ts ≡ 0 → first (on 12 (is_closed r.phase) ∷ after-12) ≡ report_number r ts b d
   unfolding fit_number report_number numbered
   past-fit e = sym (behind (fit_list r ts) (on 12 (is_closed r.phase) ∷ after-12) refl e)
-
-  module _ (f : fit_number r ts ≡ 0) where
-    pub report-closed : is_closed r.phase ≡ true → 12 ≡ report_number r ts b d
-    report-closed e = sym (given 12 (is_closed r.phase) after-12 e) ∙ past-fit f
-
-    module _ (running : is_closed r.phase ≡ false) where
-      past-12 : first after-12 ≡ report_number r ts b d
-      past-12 = sym (passed 12 (is_closed r.phase) after-12 running) ∙ past-fit f
-
-      pub seven : bad_bidder r.bidders b ≡ true → 7 ≡ report_number r ts b d
-      seven e = sym (given 7 (bad_bidder r.bidders b) after-7 e) ∙ past-12
-
-      module _ (is-bidder : bad_bidder r.bidders b ≡ false) where
-        past-7 : first after-7 ≡ report_number r ts b d
-        past-7 = sym (passed 7 (bad_bidder r.bidders b) after-7 is-bidder) ∙ past-12
-
-        pub thirteen : has_reported r b ≡ true → 13 ≡ report_number r ts b d
-        thirteen e = sym (given 13 (has_reported r b) after-13 e) ∙ past-7
-
-        module _ (new : has_reported r b ≡ false) where
-          past-13 : first after-13 ≡ report_number r ts b d
-          past-13 = sym (passed 13 (has_reported r b) after-13 new) ∙ past-7
-
-          pub eight : unfit r.items d ≡ true → 8 ≡ report_number r ts b d
-          eight e = sym (given 8 (unfit r.items d) after-8 e) ∙ past-13
-
-          module _ (report-fit : unfit r.items d ≡ false) where
-            past-8 : first after-8 ≡ report_number r ts b d
-            past-8 = sym (passed 8 (unfit r.items d) after-8 report-fit) ∙ past-13
-
-            pub nineteen : unexplained_at r ts (b - 1) d ≡ true → 19 ≡ report_number r ts b d
-            nineteen e = sym (given 19 (unexplained_at r ts (b - 1) d) [] e) ∙ past-8
-
-            pub accepted : unexplained_at r ts (b - 1) d ≡ false → 0 ≡ report_number r ts b d
-            accepted e = sym (passed 19 (unexplained_at r ts (b - 1) d) [] e ∙ first-nil) ∙ past-8
 
 -- none of the numbers of a report
 pub record Accepted (r : Auction) (ts : List ℤ) (b : ℕ) (d : Demand) : Type 0 where
@@ -219,27 +137,6 @@ module _ (r : Auction) (ts : List ℤ) where
   unfolding fit_number ready_number numbered
   end-fit e = sym (behind (fit_list r ts) end_list refl e)
 
-  module _ (f : fit_number r ts ≡ 0) where
-    pub end-closed : is_closed r.phase ≡ true → 12 ≡ ready_number r ts
-    end-closed e = sym (given 12 (is_closed r.phase) (on 14 (missing r) ∷ on 19 (any_unexplained r ts) ∷ []) e) ∙ end-fit f
-
-    module _ (running : is_closed r.phase ≡ false) where
-      end-open : first (on 14 (missing r) ∷ on 19 (any_unexplained r ts) ∷ []) ≡ ready_number r ts
-      end-open = sym (passed 12 (is_closed r.phase) (on 14 (missing r) ∷ on 19 (any_unexplained r ts) ∷ []) running) ∙ end-fit f
-
-      pub fourteen : missing r ≡ true → 14 ≡ ready_number r ts
-      fourteen e = sym (given 14 (missing r) (on 19 (any_unexplained r ts) ∷ []) e) ∙ end-open
-
-      module _ (complete : missing r ≡ false) where
-        end-complete : first (on 19 (any_unexplained r ts) ∷ []) ≡ ready_number r ts
-        end-complete = sym (passed 14 (missing r) (on 19 (any_unexplained r ts) ∷ []) complete) ∙ end-open
-
-        pub end-nineteen : any_unexplained r ts ≡ true → 19 ≡ ready_number r ts
-        end-nineteen e = sym (given 19 (any_unexplained r ts) [] e) ∙ end-complete
-
-        pub end-explained : any_unexplained r ts ≡ false → 0 ≡ ready_number r ts
-        end-explained e = sym (passed 19 (any_unexplained r ts) [] e ∙ first-nil) ∙ end-complete
-
   -- no number: its round is looked for
   pub settling : ready_number r ts ≡ 0 → Settling r ts
   settling e = go (fit_number r ts) refl
@@ -253,9 +150,6 @@ module _ (r : Auction) (ts : List ℤ) where
       go (suc x) q =
           let ne : fit_number r ts ≡ 0 → ⊥ = λ z. omega (arith, q, z) in
           absurd (ne (end-unfit ne ∙ e))
-
-  pub settling-not : Settling r ts → ready_number r ts ≡ 0
-  settling-not s = sym (end-explained (fits_not r ts s.fit) s.ready.running s.ready.complete s.explained)
 
 -- ---- what is handed back
 

@@ -3,3 +3,4 @@ pub mod Tables
 pub mod Calls
 pub mod Tidy
 pub mod Reading
+pub mod Refusals

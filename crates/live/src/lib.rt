@@ -4,7 +4,7 @@
 mod tables; // tables.rt: the lent tables of all bidders
 mod well_formed; // well_formed.rt: number 11
 
-ghost use Rattle.std.specs.Prelude.{◌≡◌, true, ◌&&◌, not, cond, ◌≤◌, ◌<◌, eqb};
+ghost use Rattle.std.specs.Prelude.{◌≡◌, true, not, cond, ◌≤◌, ◌<◌};
 ghost use Rattle.sets.specs.Lists.{places};
 ghost use Rattle.rule.specs.Round.{raised, lowered, closed};
 ghost use Rattle.lines.specs.Lines.{written_to};
@@ -16,13 +16,16 @@ ghost use Rattle.live.specs.declared.Kind.TheVariants.{Raised, Lowered};
 ghost use Rattle.live.specs.declared.Ended.TheVariants.{Moved, Refused};
 ghost use Rattle.live.specs.declared.Ended.TheVariants.{Closed as Closes};
 ghost use Rattle.live.specs.Reading.{too_few, names_of, sheet_of, read_number, read_bytes};
-ghost use Rattle.live.specs.Tidy.{Tidy, Ready, Calm, fit_number, ready_number, round_answer, round_next, is_move};
+ghost use Rattle.live.specs.Tidy.{Tidy, Ready, fit_number, ready_number, round_answer, round_next, is_move};
+ghost use Rattle.live.specs.Refusals.{refusal_number, number_of};
+
+use sets::Set;
 
 // the most bidders of a live auction, as the rule has them (document 02, #108)
 pub const MOST_BIDDERS: usize = 40;
 
 // document 01: rising, falling, closed
-#[derive(Clone, Copy)]
+#[derive(Clone, Copy, Debug, PartialEq, Eq)]
 pub enum Phase {
     Rising,
     Falling,
@@ -30,14 +33,14 @@ pub enum Phase {
 }
 
 // the kind of a move: raised or lowered
-#[derive(Clone, Copy)]
+#[derive(Clone, Copy, Debug, PartialEq, Eq)]
 pub enum Kind {
     Raised,
     Lowered,
 }
 
 // what ending a round gives: moved, with the kind of move and its items; closed; or turned down, with its number
-#[derive(Clone, Copy)]
+#[derive(Clone, Copy, Debug, PartialEq, Eq)]
 pub enum Ended {
     Moved(Kind, u32),
     Closed,
@@ -46,7 +49,7 @@ pub enum Ended {
 
 // the record: items, bidders, prices, floors, reports (an item set each, and the set of the bidders who say null), which bidders
 // have reported, the phase, and the counts of raising and lowering rounds
-#[derive(Clone, Copy)]
+#[derive(Clone, Copy, Debug, PartialEq, Eq)]
 pub struct Auction {
     pub items: usize,
     pub bidders: usize,
@@ -61,37 +64,71 @@ pub struct Auction {
 }
 
 // opening, report and clear: the number that turned the call down, or 0, beside the next record
-#[derive(Clone, Copy)]
+// Stays: zeros or the record beside a number are what the interface promises (edits open_not_zeros, refusal_changes).
+#[derive(Clone, Copy, Debug, PartialEq, Eq)]
 pub struct Reply {
     pub number: u8,
     pub next: Auction,
 }
 
 // ending a round: its answer beside the next record
-#[derive(Clone, Copy)]
+#[derive(Clone, Copy, Debug, PartialEq, Eq)]
 pub struct Step {
     pub ended: Ended,
     pub next: Auction,
 }
 
-// an item of the set that stands at 4,095
-fn is_top(on: bool, price: u16) -> bool
-    ensures { result ≡ on && eqb price 4095 }
-{
-    if !on {
-        return false;
-    }
-    price == 4095
+// why a call is turned down, in the order of document 01's numbers
+#[derive(Clone, Copy)]
+enum Refusal {
+    ItemCount,
+    BidderCount,
+    Length,
+    StartingPrice,
+    Bidder,
+    Report,
+    Record,
+    AfterClose,
+    Reported,
+    Missing,
+    BeforeClose,
+    Rise,
+    Ceiling,
+    Floor,
+    Unexplained,
 }
 
-// the round moved
-fn is_move(ended: Ended) -> bool
-    ensures { result ≡ is_move (ending_of ended) }
-{
-    match ended {
-        Ended::Moved(_, _) => true,
-        Ended::Closed => false,
-        Ended::Refused(_) => false,
+// the number of a refusal
+impl From<Refusal> for u8 {
+    ghost from_gives = { λ refusal number. number ≡ refusal_number refusal };
+
+    fn from(refusal: Refusal) -> u8 {
+        match refusal {
+            Refusal::ItemCount => 1,
+            Refusal::BidderCount => 2,
+            Refusal::Length => 3,
+            Refusal::StartingPrice => 4,
+            Refusal::Bidder => 7,
+            Refusal::Report => 8,
+            Refusal::Record => 11,
+            Refusal::AfterClose => 12,
+            Refusal::Reported => 13,
+            Refusal::Missing => 14,
+            Refusal::BeforeClose => 15,
+            Refusal::Rise => 16,
+            Refusal::Ceiling => 17,
+            Refusal::Floor => 18,
+            Refusal::Unexplained => 19,
+        }
+    }
+}
+
+impl Ended {
+    // the round moved
+    fn is_move(self) -> bool
+        ensures { result ≡ is_move (ending_of self) }
+    {
+        matches!(self, Ended::Moved(..))
     }
 }
 
@@ -114,61 +151,60 @@ fn zeros() -> Auction
 }
 
 // an opening that is turned down
-fn refused(number: u8) -> Reply
-    ensures { result ≡ unopened number }
+fn refused(refusal: Refusal) -> Reply
+    ensures { result ≡ unopened (refusal_number refusal) }
 {
     Reply {
-        number,
+        number: refusal.into(),
         next: zeros(),
     }
 }
 
-// the number that turns an opening with floors down, or 0: 1, 2, 3 (starting prices, floors, tables), 4, 18
-fn open_number(items: usize, bidders: usize, start: &[u16], floors: &[u16], tables: &[i16]) -> u8
-    ensures { result ≡ open_above_number items bidders start.now floors.now tables.now }
+// whether an opening with floors is turned down: 1, 2, 3 (starting prices, floors, tables), 4, 18
+fn check_open(
+    items: usize,
+    bidders: usize,
+    start: &[u16],
+    floors: &[u16],
+    tables: &[i16],
+) -> Result<(), Refusal>
+    ensures { number_of result ≡ open_above_number items bidders start.now floors.now tables.now }
 {
     if sets::outside(32, items) {
-        return 1;
+        return Err(Refusal::ItemCount);
     }
     if sets::outside(MOST_BIDDERS, bidders) {
-        return 2;
+        return Err(Refusal::BidderCount);
     }
     if start.len() != items {
-        return 3;
+        return Err(Refusal::Length);
     }
     if floors.len() != items {
-        return 3;
+        return Err(Refusal::Length);
     }
     if tables.len() != bidders * 1089 {
-        return 3;
+        return Err(Refusal::Length);
     }
     if prices::any_over(start) {
-        return 4;
+        return Err(Refusal::StartingPrice);
     }
     // no starting price is above 4,095 here, so a floor above 4,095 is above its starting price: one test for both halves of 18
     if prices::any_under(start, floors) {
-        return 18;
+        return Err(Refusal::Floor);
     }
-    0
+    Ok(())
 }
 
 // the record that an opening makes
 fn opened(items: usize, bidders: usize, start: &[u16], floors: &[u16]) -> Auction
     ensures { result ≡ opened items bidders start.now floors.now }
 {
-    let prices = prices::in_places(start);
-    let floors = prices::in_places(floors);
     Auction {
         items,
         bidders,
-        prices,
-        floors,
-        sets: [0; 64],
-        nulls: 0,
-        reported: 0,
-        phase: Phase::Rising,
-        raised: 0,
-        lowered: 0,
+        prices: prices::in_places(start),
+        floors: prices::in_places(floors),
+        ..zeros()
     }
 }
 
@@ -182,14 +218,15 @@ pub fn open_above(
 ) -> Reply
     ensures { (result ≡ open_above items bidders start.now floors.now tables.old) × (tables.new ≡ filled_by (open_above_number items bidders start.now floors.now tables.old) items bidders tables.old) }
 {
-    let number = open_number(items, bidders, start, floors, tables);
-    if number != 0 {
-        return refused(number);
-    }
-    tables::fill_all(tables, bidders, items);
-    Reply {
-        number: 0,
-        next: opened(items, bidders, start, floors),
+    match check_open(items, bidders, start, floors, tables) {
+        Ok(()) => {
+            tables::fill_all(tables, bidders, items);
+            Reply {
+                number: 0,
+                next: opened(items, bidders, start, floors),
+            }
+        }
+        Err(refusal) => refused(refusal),
     }
 }
 
@@ -198,154 +235,256 @@ pub fn open(items: usize, bidders: usize, start: &[u16], tables: &mut [i16]) -> 
     ensures { (result ≡ open_auction items bidders start.now tables.old) × (tables.new ≡ filled_by (open_number items bidders start.now tables.old) items bidders tables.old) }
 {
     if 32 < items {
-        return refused(1);
+        return refused(Refusal::ItemCount);
     }
     let floors = [0u16; 32];
     open_above(items, bidders, start, &floors[..items], tables)
 }
 
-impl Auction {
-    // ---- what the reports give, and the phase
+// a record whose counts are in range and whose unused places and bits are zero: its reports are those of so many bidders on so many items
+#[derive(Clone, Copy)]
+struct Tidied {
+    auction: Auction,
+    ghost tidy: { Tidy auction },
+}
 
-    // the rising set of the reports
+impl Tidied {
+    // ---- what the reports give
+
+    // the rising set
     fn rising_set(self) -> u32
-        requires { Tidy self }
-        ensures { result ≡ rising_set self }
+        ensures { result ≡ rising_set self.auction }
     {
-        let sets = self.sets;
-        round::rising(&sets, self.nulls)
+        round::rising(&self.auction.sets, self.auction.nulls)
     }
 
     // the items of price above the floor
     fn items_above(self) -> u32
-        requires { Tidy self }
-        ensures { result ≡ items_above self }
+        ensures { result ≡ items_above self.auction }
     {
-        let floors = self.floors;
-        let prices = self.prices;
-        round::above_floors(&floors, &prices)
+        round::above_floors(&self.auction.floors, &self.auction.prices)
     }
 
-    // the falling set of the reports
+    // the falling set
     fn falling_set(self) -> u32
-        requires { Tidy self }
-        ensures { result ≡ falling_set self }
+        ensures { result ≡ falling_set self.auction }
     {
-        let sets = self.sets;
-        round::falling(&sets, self.items_above())
+        round::falling(&self.auction.sets, self.items_above())
+    }
+
+    // the names at the close, and zeros past the last bidder
+    fn names(self) -> [u8; 64]
+        ensures { result ≡ places 64 (names_of self.auction) }
+    {
+        assignment::first(
+            &self.auction.sets,
+            self.auction.nulls,
+            self.items_above(),
+            self.auction.bidders,
+        )
+    }
+
+    // writes the closing sheet's three lines to the front of the bytes, unless they are too few
+    fn written(self, out: &mut [u8]) -> bool
+        ensures { (result ≡ not (too_few self.auction out.old)) × (out.new ≡ cond (too_few self.auction out.old) out.old (written_to out.old (sheet_of self.auction))) }
+    {
+        lines::write_closing(
+            out,
+            self.auction.items,
+            self.auction.bidders,
+            self.auction.raised,
+            self.auction.lowered,
+            &self.auction.prices,
+            &self.names(),
+        )
+    }
+}
+
+// a record whose round can be looked for: well formed, not closed, and no report missing
+#[derive(Clone, Copy)]
+struct Complete {
+    auction: Auction,
+    ghost ready: { Ready auction },
+}
+
+impl Complete {
+    // ---- the round
+
+    // the rising set is empty: the falling set goes down, or the auction closes
+    fn ended_low(self) -> Step
+        requires { rising_set self.auction ≡ 0 }
+        ensures { (ending_of result.ended ≡ round_answer self.auction) × (result.next ≡ round_next self.auction) }
+    {
+        let falling = self.auction.tidied().falling_set();
+        if falling == 0 {
+            return self.auction.closed();
+        }
+        self.auction.lowered_by(falling)
+    }
+
+    // while rising: 17 where an item of the rising set cannot go up
+    fn ended_rising(self, set: u32) -> Step
+        requires { (self.auction.phase ≡ Rising) × (set ≡ rising_set self.auction) }
+        ensures { (ending_of result.ended ≡ round_answer self.auction) × (result.next ≡ round_next self.auction) }
+    {
+        if set == 0 {
+            return self.ended_low();
+        }
+        if self.auction.at_top(set) {
+            return self.auction.stopped(Refusal::Ceiling);
+        }
+        self.auction.raised_by(set)
+    }
+
+    // while falling: 16 where the rising set is not empty
+    fn ended_falling(self, set: u32) -> Step
+        requires { (self.auction.phase ≡ Falling) × (set ≡ rising_set self.auction) }
+        ensures { (ending_of result.ended ≡ round_answer self.auction) × (result.next ≡ round_next self.auction) }
+    {
+        if set != 0 {
+            return self.auction.stopped(Refusal::Rise);
+        }
+        self.ended_low()
+    }
+
+    // the round that the reports give: 16 or 17
+    fn ended(self) -> Step
+        ensures { (ending_of result.ended ≡ round_answer self.auction) × (result.next ≡ round_next self.auction) }
+    {
+        let set = self.auction.tidied().rising_set();
+        match self.auction.phase {
+            Phase::Rising => self.ended_rising(set),
+            Phase::Falling => self.ended_falling(set),
+            Phase::Closed => unreachable!(),
+        }
+    }
+}
+
+impl Auction {
+    // the record as one whose unused places and bits are zero
+    fn tidied(self) -> Tidied
+        requires { Tidy self }
+        ensures { result.auction ≡ self }
+    {
+        Tidied { auction: self }
+    }
+
+    // the record as one whose round can be looked for
+    fn completed(self) -> Complete
+        requires { Ready self }
+        ensures { result.auction ≡ self }
+    {
+        Complete { auction: self }
     }
 
     // the phase is closed
     fn is_closed(self) -> bool
         ensures { result ≡ is_closed self.phase }
     {
-        let phase = self.phase;
-        match phase {
-            Phase::Rising => false,
-            Phase::Falling => false,
-            Phase::Closed => true,
-        }
+        self.phase == Phase::Closed
     }
 
     // ---- report and clear
 
-    // the number that turns a clear down, or 0: 11, 12
-    fn clear_number(self) -> u8
-        ensures { result ≡ clear_number self }
+    // whether a clear is turned down: 11, 12
+    fn check_clear(self) -> Result<(), Refusal>
+        ensures { number_of result ≡ clear_number self }
     {
         if !self.well_formed() {
-            return 11;
+            return Err(Refusal::Record);
         }
         if self.is_closed() {
-            return 12;
+            return Err(Refusal::AfterClose);
         }
-        0
+        Ok(())
     }
 
-    // the number that turns record and tables down before anything is asked of them, or 0: 11, 3, 11
-    fn fit_number(self, tables: &[i16]) -> u8
-        ensures { result ≡ fit_number self tables.now }
+    // whether record and tables are turned down before anything is asked of them: 11, 3, 11
+    fn check_fit(self, tables: &[i16]) -> Result<(), Refusal>
+        ensures { number_of result ≡ fit_number self tables.now }
     {
         if !self.well_formed() {
-            return 11;
+            return Err(Refusal::Record);
         }
         if tables.len() != self.bidders * 1089 {
-            return 3;
+            return Err(Refusal::Length);
         }
         if !self.tables_fit(tables) {
-            return 11;
+            return Err(Refusal::Record);
         }
-        0
+        Ok(())
     }
 
-    // the number that turns a report down, or 0: 11, 3, 11, 12, 7, 13, 8, 19
-    fn report_number(self, bidder: usize, null: bool, set: u32, tables: &[i16]) -> u8
-        ensures { result ≡ report_number self tables.now bidder (saying null set) }
+    // whether a report is turned down: 11, 3, 11, 12, 7, 13, 8, 19
+    fn check_report(
+        self,
+        bidder: usize,
+        null: bool,
+        set: u32,
+        tables: &[i16],
+    ) -> Result<(), Refusal>
+        ensures { number_of result ≡ report_number self tables.now bidder (saying null set) }
     {
-        let number = self.fit_number(tables);
-        if number != 0 {
-            return number;
-        }
+        self.check_fit(tables)?;
         if self.is_closed() {
-            return 12;
+            return Err(Refusal::AfterClose);
         }
         if sets::outside(self.bidders, bidder) {
-            return 7;
+            return Err(Refusal::Bidder);
         }
-        if sets::has_bidder(self.reported, bidder) {
-            return 13;
+        if self.reported.has(bidder) {
+            return Err(Refusal::Reported);
         }
         if reports::refuses(self.items, null, set) {
-            return 8;
+            return Err(Refusal::Report);
         }
         if !self.is_explained(bidder - 1, null, set, tables) {
-            return 19;
+            return Err(Refusal::Unexplained);
         }
-        0
+        Ok(())
     }
 
     // a call that is turned down hands the record back as it came
-    fn kept(self, number: u8) -> Reply
-        ensures { result ≡ record { number = number; next = self } }
+    fn kept(self, refusal: Refusal) -> Reply
+        ensures { result ≡ record { number = refusal_number refusal; next = self } }
     {
+        let number = refusal.into();
         Reply { number, next: self }
     }
 
     // the report takes its bidder's place, and the bidder has reported
-    fn with_report(self, bidder: usize, null: bool, set: u32) -> Auction
+    fn with_report(mut self, bidder: usize, null: bool, set: u32) -> Auction
         requires { (1 ≤ bidder) × (bidder ≤ 64) }
         ensures { result ≡ with_report self bidder (saying null set) }
     {
-        let k = bidder - 1;
-        let mut next = self;
-        next.sets[k] = set;
-        next.nulls = round::add_bidder(next.nulls, bidder, null);
-        next.reported = sets::with_bidder(next.reported, bidder);
-        next
+        self.sets[bidder - 1] = set;
+        self.nulls = round::add(self.nulls, bidder, null);
+        self.reported = self.reported.with(bidder);
+        self
     }
 
     // no reports
     fn cleared(self) -> Auction
         ensures { result ≡ cleared self }
     {
-        let mut next = self;
-        next.sets = [0; 64];
-        next.nulls = 0;
-        next.reported = 0;
-        next
+        Auction {
+            sets: [0; 64],
+            nulls: 0,
+            reported: 0,
+            ..self
+        }
     }
 
     // a bidder's report, which changes no table: 11, 3, 11, 12, 7, 13, 8, 19
     pub fn report(self, bidder: usize, null: bool, set: u32, tables: &[i16]) -> Reply
         ensures { result ≡ report self tables.now bidder (saying null set) }
     {
-        let number = self.report_number(bidder, null, set, tables);
-        if number != 0 {
-            return self.kept(number);
-        }
-        Reply {
-            number: 0,
-            next: self.with_report(bidder, null, set),
+        match self.check_report(bidder, null, set, tables) {
+            Ok(()) => Reply {
+                number: 0,
+                next: self.with_report(bidder, null, set),
+            },
+            Err(refusal) => self.kept(refusal),
         }
     }
 
@@ -353,39 +492,37 @@ impl Auction {
     pub fn clear(self) -> Reply
         ensures { result ≡ clear self }
     {
-        let number = self.clear_number();
-        if number != 0 {
-            return self.kept(number);
-        }
-        Reply {
-            number: 0,
-            next: self.cleared(),
+        match self.check_clear() {
+            Ok(()) => Reply {
+                number: 0,
+                next: self.cleared(),
+            },
+            Err(refusal) => self.kept(refusal),
         }
     }
 
     // ---- end the round
 
+    // Stays: that there are at most 32 items is asked here and while number 11 is looked for (well_formed.rt), when more is not yet known of the record.
     // of the items of the set one stands at 4,095
     fn at_top(self, set: u32) -> bool
         requires { self.items ≤ 32 }
         ensures { result ≡ at_top self.items self.prices set }
     {
-        let mut k: usize = 0;
-        while k < self.items {
-            if is_top(sets::has_item(set, k + 1), self.prices[k]) {
+        for k in 0..self.items {
+            if set.has(k + 1) && self.prices[k] == 4095 {
                 return true;
             }
-            k += 1;
         }
         false
     }
 
     // an end that is turned down hands the record back as it came
-    fn stopped(self, number: u8) -> Step
-        ensures { result ≡ record { ended = Refused number; next = self } }
+    fn stopped(self, refusal: Refusal) -> Step
+        ensures { result ≡ record { ended = Refused (refusal_number refusal); next = self } }
     {
         Step {
-            ended: Ended::Refused(number),
+            ended: Ended::Refused(refusal.into()),
             next: self,
         }
     }
@@ -395,16 +532,13 @@ impl Auction {
         requires { (prices_fit self ≡ true) × (self.raised < 4294967295) }
         ensures { result ≡ record { ended = Moved Raised set; next = settled self (raised set) } }
     {
-        let prices = self.prices;
-        let higher = prices::raised(&prices, set);
-        let next = self.cleared();
         Step {
             ended: Ended::Moved(Kind::Raised, set),
             next: Auction {
-                prices: higher,
+                prices: prices::raised(&self.prices, set),
                 phase: Phase::Rising,
                 raised: self.raised + 1,
-                ..next
+                ..self.cleared()
             },
         }
     }
@@ -414,16 +548,13 @@ impl Auction {
         requires { self.lowered < 4294967295 }
         ensures { result ≡ record { ended = Moved Lowered set; next = settled self (lowered set) } }
     {
-        let prices = self.prices;
-        let less = prices::lowered(&prices, set);
-        let next = self.cleared();
         Step {
             ended: Ended::Moved(Kind::Lowered, set),
             next: Auction {
-                prices: less,
+                prices: prices::lowered(&self.prices, set),
                 phase: Phase::Falling,
                 lowered: self.lowered + 1,
-                ..next
+                ..self.cleared()
             },
         }
     }
@@ -441,137 +572,65 @@ impl Auction {
         }
     }
 
-    // the rising set is empty: the falling set goes down, or the auction closes
-    fn ended_low(self) -> Step
-        requires { Calm self }
-        ensures { (ending_of result.ended ≡ round_answer self) × (result.next ≡ round_next self) }
+    // whether an end is turned down before its round is looked for: 11, 3, 11, 12, 14, 19
+    fn check_ready(self, tables: &[i16]) -> Result<(), Refusal>
+        ensures { number_of result ≡ ready_number self tables.now }
     {
-        let falling = self.falling_set();
-        if falling == 0 {
-            return self.closed();
-        }
-        self.lowered_by(falling)
-    }
-
-    // while rising: 17 where an item of the rising set cannot go up
-    fn ended_rising(self, set: u32) -> Step
-        requires { (Ready self) × (self.phase ≡ Rising) × (set ≡ rising_set self) }
-        ensures { (ending_of result.ended ≡ round_answer self) × (result.next ≡ round_next self) }
-    {
-        if set == 0 {
-            return self.ended_low();
-        }
-        if self.at_top(set) {
-            return self.stopped(17);
-        }
-        self.raised_by(set)
-    }
-
-    // while falling: 16 where the rising set is not empty
-    fn ended_falling(self, set: u32) -> Step
-        requires { (Ready self) × (self.phase ≡ Falling) × (set ≡ rising_set self) }
-        ensures { (ending_of result.ended ≡ round_answer self) × (result.next ≡ round_next self) }
-    {
-        if set != 0 {
-            return self.stopped(16);
-        }
-        self.ended_low()
-    }
-
-    // the round that the reports give: 16 or 17
-    fn ended(self) -> Step
-        requires { Ready self }
-        ensures { (ending_of result.ended ≡ round_answer self) × (result.next ≡ round_next self) }
-    {
-        let set = self.rising_set();
-        let phase = self.phase;
-        match phase {
-            Phase::Rising => self.ended_rising(set),
-            Phase::Falling => self.ended_falling(set),
-            Phase::Closed => self.stopped(12),
-        }
-    }
-
-    // the number that turns an end down before its round is looked for, or 0: 11, 3, 11, 12, 14, 19
-    fn ready_number(self, tables: &[i16]) -> u8
-        ensures { result ≡ ready_number self tables.now }
-    {
-        let number = self.fit_number(tables);
-        if number != 0 {
-            return number;
-        }
+        self.check_fit(tables)?;
         if self.is_closed() {
-            return 12;
+            return Err(Refusal::AfterClose);
         }
         if reports::misses(self.bidders, self.reported) {
-            return 14;
+            return Err(Refusal::Missing);
         }
-        if !self.all_explained(tables) {
-            return 19;
+        if !self.completed().all_explained(tables) {
+            return Err(Refusal::Unexplained);
         }
-        0
+        Ok(())
     }
 
     // ends the round, and narrows the tables where it moves: 11, 3, 11, 12, 14, 19, then 16 or 17
     pub fn end(self, tables: &mut [i16]) -> Step
         ensures { (ending_of result.ended ≡ end_answer self tables.old) × (result.next ≡ end_next self tables.old) × (tables.new ≡ end_tables self tables.old) }
     {
-        let number = self.ready_number(tables);
-        if number != 0 {
-            return self.stopped(number);
+        match self.check_ready(tables) {
+            Ok(()) => {
+                let complete = self.completed();
+                let step = complete.ended();
+                if step.ended.is_move() {
+                    complete.narrow_all(tables);
+                }
+                step
+            }
+            Err(refusal) => self.stopped(refusal),
         }
-        let step = self.ended();
-        let ended = step.ended;
-        if is_move(ended) {
-            self.narrow_all(tables);
-            return step;
-        }
-        step
     }
 
     // ---- read the close
 
-    // the names at the close, and zeros past the last bidder
-    fn names(self) -> [u8; 64]
-        requires { Tidy self }
-        ensures { result ≡ places 64 (names_of self) }
+    // reads the close, unless the record or the bytes turn it down: 11, 15, 3
+    fn read_close(self, out: &mut [u8]) -> Result<(), Refusal>
+        ensures { (number_of result ≡ read_number self out.old) × (out.new ≡ read_bytes self out.old) }
     {
-        let sets = self.sets;
-        assignment::first(&sets, self.nulls, self.items_above(), self.bidders)
-    }
-
-    // writes the closing sheet's three lines to the front of the bytes, unless they are too few
-    fn written(self, out: &mut [u8]) -> bool
-        requires { Tidy self }
-        ensures { (result ≡ not (too_few self out.old)) × (out.new ≡ cond (too_few self out.old) out.old (written_to out.old (sheet_of self))) }
-    {
-        let names = self.names();
-        let prices = self.prices;
-        lines::write_closing(
-            out,
-            self.items,
-            self.bidders,
-            self.raised,
-            self.lowered,
-            &prices,
-            &names,
-        )
+        if !self.well_formed() {
+            return Err(Refusal::Record);
+        }
+        if !self.is_closed() {
+            return Err(Refusal::BeforeClose);
+        }
+        if !self.tidied().written(out) {
+            return Err(Refusal::Length);
+        }
+        Ok(())
     }
 
     // reads the close, three lines: 11, 15, 3
     pub fn read(self, out: &mut [u8]) -> u8
         ensures { (result ≡ read_number self out.old) × (out.new ≡ read_bytes self out.old) }
     {
-        if !self.well_formed() {
-            return 11;
+        match self.read_close(out) {
+            Ok(()) => 0,
+            Err(refusal) => refusal.into(),
         }
-        let closed = self.is_closed();
-        if !closed {
-            return 15;
-        }
-        if !self.written(out) {
-            return 3;
-        }
-        0
     }
 }

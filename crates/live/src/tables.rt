@@ -4,21 +4,19 @@ ghost use Rattle.rule.specs.Refusal.{most_live_bidders};
 ghost use Rattle.reports.specs.Report.{saying, unfit};
 ghost use Rattle.live.specs.Auction.{well_formed};
 ghost use Rattle.live.specs.Tables.{bad_tables, tables_fit, open_tables, unexplained_at, any_unexplained, narrowed_tables};
-ghost use Rattle.live.specs.Tidy.{Fit, Ready};
+ghost use Rattle.live.specs.Tidy.{Fit};
 
-use crate::Auction;
+use crate::{Auction, Complete};
+use sets::Set;
 
 // every bidder's table is the opening's
 pub(crate) fn fill_all(tables: &mut [i16], bidders: usize, items: usize)
     requires { (length tables.old ≡ bidders * 1089) × (bidders ≤ most_live_bidders) × (items ≤ 32) }
     ensures { tables.new ≡ open_tables items bidders }
 {
-    let mut k: usize = 0;
-    while k < bidders {
+    for k in 0..bidders {
         let a = k * 1089;
-        let b = a + 1089;
-        differences::fill(&mut tables[a..b], items);
-        k += 1;
+        differences::fill(&mut tables[a..a + 1089], items);
     }
 }
 
@@ -28,14 +26,11 @@ impl Auction {
         requires { (well_formed self ≡ true) × (bad_tables self.bidders tables.now ≡ false) }
         ensures { result ≡ tables_fit self tables.now }
     {
-        let mut k: usize = 0;
-        while k < self.bidders {
+        for k in 0..self.bidders {
             let a = k * 1089;
-            let b = a + 1089;
-            if !differences::fits(&tables[a..b], self.items) {
+            if !differences::fits(&tables[a..a + 1089], self.items) {
                 return false;
             }
-            k += 1;
         }
         true
     }
@@ -45,41 +40,44 @@ impl Auction {
         requires { (Fit self tables.now) × (k < self.bidders) × (unfit self.items (saying null set) ≡ false) }
         ensures { result ≡ not (unexplained_at self tables.now k (saying null set)) }
     {
-        let prices = self.prices;
         let a = k * 1089;
-        let b = a + 1089;
-        differences::explains(&tables[a..b], self.items, &prices, null, set)
+        differences::explains(&tables[a..a + 1089], self.items, &self.prices, null, set)
     }
+}
 
+// Stays: `Fit` speaks of a record and of the tables that are lent with it, which `narrow_all` changes, so that no one value can hold it.
+impl Complete {
     // not 19: so it is of every bidder's report
     pub(crate) fn all_explained(self, tables: &[i16]) -> bool
-        requires { (Fit self tables.now) × (Ready self) }
-        ensures { result ≡ not (any_unexplained self tables.now) }
+        requires { Fit self.auction tables.now }
+        ensures { result ≡ not (any_unexplained self.auction tables.now) }
     {
-        let mut k: usize = 0;
-        while k < self.bidders {
-            if !self.is_explained(k, sets::has_bidder(self.nulls, k + 1), self.sets[k], tables) {
+        let auction = self.auction;
+        for k in 0..auction.bidders {
+            let null = auction.nulls.has(k + 1);
+            if !auction.is_explained(k, null, auction.sets[k], tables) {
                 return false;
             }
-            k += 1;
         }
         true
     }
 
     // each bidder's table is narrowed to the bids that explain the report
     pub(crate) fn narrow_all(self, tables: &mut [i16])
-        requires { (Fit self tables.old) × (Ready self) × (any_unexplained self tables.old ≡ false) }
-        ensures { tables.new ≡ narrowed_tables self tables.old }
+        requires { (Fit self.auction tables.old) × (any_unexplained self.auction tables.old ≡ false) }
+        ensures { tables.new ≡ narrowed_tables self.auction tables.old }
     {
-        let prices = self.prices;
-        let mut k: usize = 0;
-        while k < self.bidders {
-            let null = sets::has_bidder(self.nulls, k + 1);
-            let set = self.sets[k];
+        for k in 0..self.auction.bidders {
+            let null = self.auction.nulls.has(k + 1);
             let a = k * 1089;
-            let b = a + 1089;
-            differences::narrow(&mut tables[a..b], self.items, &prices, null, set);
-            k += 1;
+            let table = &mut tables[a..a + 1089];
+            differences::narrow(
+                table,
+                self.auction.items,
+                &self.auction.prices,
+                null,
+                self.auction.sets[k],
+            );
         }
     }
 }

@@ -9,6 +9,7 @@ use lib.Dec.{eqb}
 use lib.ListN.{get_or, set}
 use lib.Seq.{get_or-set_other}
 use borrow.Author.Tests.{eqb-true, eq-eqb}
+use Rattle.std.specs.Prelude.{Option, Some, None, MatchOption, is_some}
 use Rattle.sets.specs.Bit.{is_set, has, set_of, lowest}
 use Rattle.sets.proofs.Counting.{and_left, and_right, and_both, not_is, not-both, is_false}
 use Rattle.sets.proofs.Members.{is_set-empty}
@@ -64,6 +65,32 @@ module _ (items : ℕ) (l : List ℕ) where
 
     pub look_none : rest ≡ 0 → 0 ≡ lowest 32 free
     look_none z = lowest-unique 32 free 0 (is-null (λ j lj. not_free j lj (ap (λ (s : ℕ). is_set s j) z ∙ is_set-empty j)))
+
+  -- whether there is a free item, as `free_item` answers it
+  abbrev Found_free : Option ℕ → Type 0
+  Found_free o = MatchOption o (lowest 32 free ≡ 0) (λ i. (0 < i) × (i ≡ lowest 32 free))
+
+  pub some-free : (o : Option ℕ) → Found_free o → is_some o ≡ true → (k : ℕ) × (k < 32) × (is_set items k ≡ true) × (get_or l k 0 ≡ 0)
+  unfolding has
+  some-free None f q = absurd cc
+  some-free (Some i) f q = go i f.0 (subst (Lowest 32 free) (sym f.1) (lowest_is 32 free))
+    where
+      go : (i : ℕ) → 0 < i → Lowest 32 free i → (k : ℕ) × (k < 32) × (is_set items k ≡ true) × (get_or l k 0 ≡ 0)
+      go i pos (is-null h) = absurd (omega arith)
+      go i pos (item k lk on h) =
+          let here : k ≡ suc k - 1 = omega arith in
+          (k, lk, and_left (is_set items k) _ on, ap (λ (j : ℕ). get_or l j 0) here ∙ eqb-true (get_or l (suc k - 1) 0) 0 (and_right (is_set items k) _ on))
+
+  pub none-free : (o : Option ℕ) → Found_free o → is_some o ≡ false → (k : ℕ) → k < 32 → is_set items k ≡ true → get_or l k 0 ≡ 0 → ⊥
+  unfolding has
+  none-free (Some i) f q k lk o z = absurd cc
+  none-free None f q k lk o z = go 0 (subst (Lowest 32 free) f (lowest_is 32 free)) refl
+    where
+      go : (i : ℕ) → Lowest 32 free i → i ≡ 0 → ⊥
+      go i (is-null h) n =
+          let here : suc k - 1 ≡ k = omega arith in
+          not-both (free (suc k)) (and_both (is_set items k) (eqb (get_or l (suc k - 1) 0) 0) o (eq-eqb (get_or l (suc k - 1) 0) 0 (ap (λ (j : ℕ). get_or l j 0) here ∙ z))) (h k lk)
+      go i (item j lj on h) n = absurd (let f : ⊥ = omega arith in f)
 
 -- a free item of the bidder's set that no failed chain has entered is given to it
 module _ (d l : List ℕ) (w b : ℕ) (lb : b < 64) (s : Settled d l w b) (rest : ℕ) (er : rest ≡ set_of 32 (λ k. has (get_or d b 0) k && not (has w k))) where

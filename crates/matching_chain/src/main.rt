@@ -4,51 +4,39 @@
 // all items and the bidders named, and who holds items 1 to 32. Of the 64, bidders 1 to 31 and 64 are named: in both there is only one match.
 #![tactic(auto)]
 
+// Stays: std's `println!` stands on one function of C more, the error number, and nothing new may be assumed.
 fn say(n: u64) {
     io::write_all(1, b" ");
     io::print_decimal(1, n);
 }
 
-fn wide(x: u8) -> u64 {
-    x as u64
-}
-
 // Who holds each item.
 fn say_holders(holder: &[u8; 32]) {
-    let mut k: usize = 0;
-    while k < 32 {
-        say(wide(holder[k]));
-        k += 1;
+    for bidder in holder {
+        say(u64::from(*bidder));
     }
 }
 
 // The first 31 bidders' sets, each an item and the next.
 fn links(demand: &mut [u32; 64]) {
-    let mut k: usize = 0;
-    while k < 31 {
-        demand[k] = 3u32 << k;
-        k += 1;
+    for (k, set) in demand[..31].iter_mut().enumerate() {
+        *set = 3 << k;
     }
 }
 
 // Bidders 33 to 64 want the last item.
 fn crowd(demand: &mut [u32; 64]) {
-    let mut k: usize = 32;
-    while k < 64 {
-        demand[k] = 0x8000_0000;
-        k += 1;
-    }
+    demand[32..].fill(0x8000_0000);
 }
 
 fn show(demand: &[u32; 64], bidders: u64) {
     io::write_all(1, b"excess demand");
-    say(matching::excess_demand(demand) as u64);
+    say(u64::from(matching::excess_demand(demand)));
     let c = matching::cover(demand, bidders, 0xffff_ffff);
     io::write_all(1, b", found");
-    say(c.found as u64);
+    say(u64::from(c.found));
     io::write_all(1, b", holders");
-    let holder = c.holder;
-    say_holders(&holder);
+    say_holders(&c.holder);
     io::write_all(1, b"\n");
 }
 

@@ -15,6 +15,5 @@ pub fn matching_excess_demand(demand: &[u32; 64]) -> u32
 pub fn matching_covers(demand: &[u32; 64], bidders: u64, items: u32) -> bool
     ensures { (h : ℕ → ℕ) × Covered 32 64 demand.now bidders items result h }
 {
-    let c = matching::cover(demand, bidders, items);
-    c.found
+    matching::cover(demand, bidders, items).found
 }

@@ -4,25 +4,22 @@
 // items (which match is free), and who holds items 1 to 3.
 #![tactic(auto)]
 
+// Stays: std's `println!` stands on one function of C more, the error number, and nothing new may be assumed.
 fn say(n: u64) {
     io::write_all(1, b" ");
     io::print_decimal(1, n);
 }
 
-fn wide(x: u8) -> u64 {
-    x as u64
-}
-
 fn show(demand: &[u32; 64], bidders: u64) {
     io::write_all(1, b"excess demand");
-    say(matching::excess_demand(demand) as u64);
+    say(u64::from(matching::excess_demand(demand)));
     let c = matching::cover(demand, bidders, 7);
     io::write_all(1, b", found");
-    say(c.found as u64);
+    say(u64::from(c.found));
     io::write_all(1, b", holders");
-    say(wide(c.holder[0]));
-    say(wide(c.holder[1]));
-    say(wide(c.holder[2]));
+    for bidder in &c.holder[..3] {
+        say(u64::from(*bidder));
+    }
     io::write_all(1, b"\n");
 }
 

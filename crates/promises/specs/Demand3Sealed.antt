@@ -1,8 +1,6 @@
 -- Demand 3, of sealed letting: what holds of the close. Document 01, "What demand 3 speaks of", with the floors of document 02, #103 (a sheet without floors has
 -- floors of 0). Every field is a sentence by itself. Assumes nothing: these are statements, which `proofs/Demand3Sealed` proves.
-use Rattle.std.specs.Prelude.{ℕ, suc, ◌+◌, ◌-◌, ◌*◌, ◌/◌, ◌%◌, ◌^◌, ◌≤◌, ◌<◌, true, ◌&&◌, not, cond, List, [], ◌∷◌, ◌++◌, ◌≡◌, leb, ltb, eqb, length, get_or, take, drop}
-use Rattle.std.proofs.Math.Option
-use Rattle.std.proofs.Math.Option.{some}
+use Rattle.std.specs.Prelude.{ℕ, suc, ◌+◌, ◌-◌, ◌*◌, ◌/◌, ◌%◌, ◌^◌, ◌≤◌, ◌<◌, true, ◌&&◌, not, cond, List, [], ◌∷◌, ◌++◌, ◌≡◌, leb, ltb, eqb, length, get_or, take, drop, Some, unwrap_or}
 use Rattle.sets.specs.Count.{all_below}
 use Rattle.sets.specs.Bit.{has}
 use Rattle.sets.specs.Lists.{tabulate, places}
@@ -114,7 +112,7 @@ pub record Sheets : Type 0 where
   -- a number in k digits, "0 to 9 and a to f"; read back it is the same
   pub no_digits : (x : ℕ) → hex 0 x ≡ []
   pub last_digit : (k x : ℕ) → hex (suc k) x ≡ hex k (x / 16) ++ cond (ltb (x % 16) 10) (48 + x % 16) (87 + x % 16) ∷ []
-  pub digits_read : (k x : ℕ) → x < 16 ^ k → number_at k (hex k x) 0 ≡ some x
+  pub digits_read : (k x : ℕ) → x < 16 ^ k → number_at k (hex k x) 0 ≡ Some x
   -- "Bid sheet: first line, pans and rakers as 2 digits each, then each starting rent as 4 digits; then one line a raker, in order, each bid as 4 digits. Nothing
   -- follows the last line"
   pub bid-sheet : (b : BidSheet) → bid_sheet b
@@ -123,16 +121,16 @@ pub record Sheets : Type 0 where
   -- its counts are read first, then all of it: nothing is said of a sheet that cannot be read
   pub items-in : (bytes : List ℕ) → items_in bytes ≡ number_at 2 bytes 0
   pub bidders-in : (bytes : List ℕ) → bidders_in bytes ≡ number_at 2 bytes 2
-  pub items_are : (bytes : List ℕ) → items_of bytes ≡ Option.get_or (items_in bytes) 0
-  pub bidders_are : (bytes : List ℕ) → bidders_of bytes ≡ Option.get_or (bidders_in bytes) 0
-  pub sheet-in : (bytes : List ℕ) → bid_sheet_of bytes ≡ Option.get_or (read_sheet bytes) (record { items = 0; bidders = 0; start = []; bids = [] })
+  pub items_are : (bytes : List ℕ) → items_of bytes ≡ unwrap_or (items_in bytes) 0
+  pub bidders_are : (bytes : List ℕ) → bidders_of bytes ≡ unwrap_or (bidders_in bytes) 0
+  pub sheet-in : (bytes : List ℕ) → bid_sheet_of bytes ≡ unwrap_or (read_sheet bytes) (record { items = 0; bidders = 0; start = []; bids = [] })
   -- a bid sheet is read as it is written, what is read was written so, and what was read, and nothing else with its counts in order, is not turned down by 6
-  pub read_written : (b : BidSheet) → Writable b → read_sheet (bid_sheet b) ≡ some b
-  pub written_read : (bytes : List ℕ) (b : BidSheet) → read_sheet bytes ≡ some b → Writable b × (bytes ≡ bid_sheet b)
+  pub read_written : (b : BidSheet) → Writable b → read_sheet (bid_sheet b) ≡ Some b
+  pub written_read : (bytes : List ℕ) (b : BidSheet) → read_sheet bytes ≡ Some b → Writable b × (bytes ≡ bid_sheet b)
   pub written_no_six : (b : BidSheet) → Writable b → (room : ℕ) → sheet_refusal (bid_sheet b) room ≡ 6 → ⊥
-  pub read_no_six : (bytes : List ℕ) (room : ℕ) (b : BidSheet) → read_sheet bytes ≡ some b → sheet_refusal bytes room ≡ 6 → ⊥
+  pub read_no_six : (bytes : List ℕ) (room : ℕ) (b : BidSheet) → read_sheet bytes ≡ Some b → sheet_refusal bytes room ≡ 6 → ⊥
   pub not_six_read : (bytes : List ℕ) (room : ℕ) → (sheet_refusal bytes room ≡ 1 → ⊥) → (sheet_refusal bytes room ≡ 2 → ⊥) → (sheet_refusal bytes room ≡ 6 → ⊥)
-      → read_sheet bytes ≡ some (bid_sheet_of bytes)
+      → read_sheet bytes ≡ Some (bid_sheet_of bytes)
   -- the sheet that the bytes say: floors of 0, and for each raker in order a part of the bids
   pub says : (bytes : List ℕ) → sheet_in bytes ≡ sheet_of (bid_sheet_of bytes).items (bid_sheet_of bytes).bidders (bid_sheet_of bytes).start (bid_sheet_of bytes).bids
   -- "Closing sheet, three lines: rounds raised and rounds lowered, 6 digits each …; each rent, 4 digits; each raker's pan, 2 digits"; and "one line of two decimal
@@ -142,11 +140,11 @@ pub record Sheets : Type 0 where
   pub number-line : (x : ℕ) → number_line x ≡ (48 + x / 10) ∷ (48 + x % 10) ∷ 10 ∷ []
   -- a closing sheet says its rounds, rents and names, and with a fourth line (#106) its gains: read back, they are those that were written
   pub read_back : (m n u d : ℕ) (p xs : List ℕ) → u < 16 ^ 6 → d < 16 ^ 6 → ((k : ℕ) → k < m → get_or p k 0 < 16 ^ 4) → ((b : ℕ) → b < n → get_or xs b 0 < 16 ^ 2)
-      → read_closing m n (closing_sheet m n u d p xs) ≡ some (record { rounds = u ∷ d ∷ []; prices = places m p; options = places n xs })
+      → read_closing m n (closing_sheet m n u d p xs) ≡ Some (record { rounds = u ∷ d ∷ []; prices = places m p; options = places n xs })
   pub sealed_back : (m n u d : ℕ) (p xs : List ℕ) → u < 16 ^ 6 → d < 16 ^ 6 → ((k : ℕ) → k < m → get_or p k 0 < 16 ^ 4) → ((b : ℕ) → b < n → get_or xs b 0 < 16 ^ 2)
       → (gains : List ℕ) → ((b : ℕ) → b < n → get_or gains b 0 < 16 ^ 4)
       → read_sealed m n (sealed_sheet m n u d p xs gains)
-      ≡ some (record { said = record { rounds = u ∷ d ∷ []; prices = places m p; options = places n xs }; gains = places n gains })
+      ≡ Some (record { said = record { rounds = u ∷ d ∷ []; prices = places m p; options = places n xs }; gains = places n gains })
   -- what a bid sheet says, by value: rents in 32 places, bids in 2,048. What is written into lent bytes stands at their front
   pub contents : (bytes : List ℕ) → bid_sheet_refusal bytes ≡ 0 → let b = bid_sheet_of bytes in contents_of bytes
       ≡ record { refusal = 0; items = b.items; bidders = b.bidders; start = places 32 b.start; bids = places 2048 b.bids }

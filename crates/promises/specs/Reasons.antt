@@ -1,7 +1,6 @@
 -- Request #101: the sheet of reasons. Every field is a sentence by itself; the program's answer, byte for byte, is that of the call in `src`. Assumes nothing: these
 -- are statements, which `proofs/Reasons` proves.
-use Rattle.std.specs.Prelude.{ℕ, ◌+◌, ◌-◌, ◌*◌, ◌≤◌, ◌<◌, Bool, true, List, [], ◌≡◌, ℤ, length, take}
-use Rattle.std.proofs.Math.Option.{some}
+use Rattle.std.specs.Prelude.{ℕ, ◌+◌, ◌-◌, ◌*◌, ◌≤◌, ◌<◌, Bool, true, List, [], ◌≡◌, ℤ, length, take, Some}
 use Rattle.sets.specs.Bit.{set_of, size}
 use Rattle.rule.specs.Sheet.{Sheet, within_limits}
 use Rattle.rule.specs.Demand.{Demand, nth}
@@ -27,10 +26,10 @@ Right m n r = (r.kind ≡ 1 → size m r.items < size n r.bidders) × (r.kind �
 -- "4 hexadecimal digits for the round from 0001, 2 digits for the kind, 8 digits for the pan set, and 16 digits for the rakers", and the line's end
 abbrev pub Line : (bytes : List ℕ) (k : ℕ) → Reason → Type 0
 Line bytes k r =
-    (number_at 4 bytes (31 * k) ≡ some (k + 1))
-    × (number_at 2 bytes (31 * k + 4) ≡ some r.kind)
-    × (number_at 8 bytes (31 * k + 6) ≡ some r.items)
-    × (number_at 16 bytes (31 * k + 14) ≡ some r.bidders)
+    (number_at 4 bytes (31 * k) ≡ Some (k + 1))
+    × (number_at 2 bytes (31 * k + 4) ≡ Some r.kind)
+    × (number_at 8 bytes (31 * k + 6) ≡ Some r.items)
+    × (number_at 16 bytes (31 * k + 14) ≡ Some r.bidders)
     × (ends_at bytes (31 * k + 30) ≡ true)
 
 pub record Request101 : Type 0 where

@@ -12,6 +12,8 @@ ghost use Rattle.reports.specs.Report.{saying, unfit};
 ghost use Rattle.reports.specs.Places.{all_fit, any_missing};
 ghost use Rattle.promises.specs.Matching.{MatchOrNone};
 
+use sets::Set;
+
 // ---- the matching, and exported
 
 pub fn excess_demand(demand: &[u32; 64]) -> u32
@@ -44,13 +46,13 @@ pub fn matching_covers(demand: &[u32; 64], bidders: u64, items: u32) -> bool
 pub fn add_item(s: u32, i: usize, on: bool) -> u32
     ensures { result ≡ set_of 32 (λ k. has s k || (on && eqb k i)) }
 {
-    round::add_item(s, i, on)
+    round::add(s, i, on)
 }
 
 pub fn add_bidder(s: u64, i: usize, on: bool) -> u64
     ensures { result ≡ set_of 64 (λ k. has s k || (on && eqb k i)) }
 {
-    round::add_bidder(s, i, on)
+    round::add(s, i, on)
 }
 
 pub fn rising(sets: &[u32; 64], nulls: u64) -> u32
@@ -158,79 +160,91 @@ pub fn outside(most: usize, number: usize) -> bool
 pub fn has_item(s: u32, i: usize) -> bool
     ensures { result ≡ has s i }
 {
-    sets::has_item(s, i)
+    s.has(i)
+}
+
+pub fn only_item(i: usize) -> u32
+    ensures { result ≡ set_of 32 (λ k. eqb k i) }
+{
+    u32::only(i)
 }
 
 pub fn first_items(n: usize) -> u32
     ensures { result ≡ set_of 32 (λ k. leb k n) }
 {
-    sets::first_items(n)
+    u32::first(n)
 }
 
 pub fn with_item(s: u32, i: usize) -> u32
     ensures { result ≡ set_of 32 (λ k. has s k || eqb k i) }
 {
-    sets::with_item(s, i)
+    s.with(i)
 }
 
 pub fn without_item(s: u32, i: usize) -> u32
     ensures { result ≡ set_of 32 (λ k. has s k && not (eqb k i)) }
 {
-    sets::without_item(s, i)
+    s.without(i)
 }
 
 pub fn common_items(s: u32, t: u32) -> u32
     ensures { result ≡ set_of 32 (λ k. has s k && has t k) }
 {
-    sets::common_items(s, t)
+    s.common(t)
 }
 
 pub fn other_items(s: u32, t: u32) -> u32
     ensures { result ≡ set_of 32 (λ k. has s k && not (has t k)) }
 {
-    sets::other_items(s, t)
+    s.but(t)
 }
 
 pub fn lowest_item(s: u32) -> usize
     ensures { result ≡ lowest 32 (has s) }
 {
-    sets::lowest_item(s)
+    s.lowest()
 }
 
 pub fn has_bidder(g: u64, b: usize) -> bool
     ensures { result ≡ has g b }
 {
-    sets::has_bidder(g, b)
+    g.has(b)
+}
+
+pub fn only_bidder(b: usize) -> u64
+    ensures { result ≡ set_of 64 (λ k. eqb k b) }
+{
+    u64::only(b)
 }
 
 pub fn first_bidders(n: usize) -> u64
     ensures { result ≡ set_of 64 (λ k. leb k n) }
 {
-    sets::first_bidders(n)
+    u64::first(n)
 }
 
 pub fn with_bidder(g: u64, b: usize) -> u64
     ensures { result ≡ set_of 64 (λ k. has g k || eqb k b) }
 {
-    sets::with_bidder(g, b)
+    g.with(b)
 }
 
 pub fn without_bidder(g: u64, b: usize) -> u64
     ensures { result ≡ set_of 64 (λ k. has g k && not (eqb k b)) }
 {
-    sets::without_bidder(g, b)
+    g.without(b)
 }
 
 pub fn common_bidders(g: u64, h: u64) -> u64
     ensures { result ≡ set_of 64 (λ k. has g k && has h k) }
 {
-    sets::common_bidders(g, h)
+    g.common(h)
 }
 
 pub fn other_bidders(g: u64, h: u64) -> u64
     ensures { result ≡ set_of 64 (λ k. has g k && not (has h k)) }
 {
-    sets::other_bidders(g, h)
+    g.but(h)
 }
 
 pub fn bidder_count(g: u64) -> u32
@@ -242,5 +256,5 @@ pub fn bidder_count(g: u64) -> u32
 pub fn lowest_bidder(g: u64) -> usize
     ensures { result ≡ lowest 64 (has g) }
 {
-    sets::lowest_bidder(g)
+    g.lowest()
 }

@@ -1,9 +1,8 @@
 // Bid sheets, closing sheets and sheets of reasons, and below them lines and digits.
-ghost use Rattle.std.specs.Prelude.{◌≡◌, cond, ◌+◌, leb, ltb, length};
-ghost use Rattle.std.proofs.Math.Option.{get_or};
+ghost use Rattle.std.specs.Prelude.{◌≡◌, cond, ◌+◌, leb, ltb, length, unwrap_or};
 ghost use Rattle.std.proofs.lemmas.List.Edits.{sets};
 ghost use Rattle.digits.specs.Digits.{hex};
-ghost use Rattle.digits.specs.Reading.{digit_value, as_number, number_in};
+ghost use Rattle.digits.specs.Reading.{digit_value, number_in};
 ghost use Rattle.digits.specs.Table.{by_table};
 ghost use Rattle.lines.specs.Lines.{number_text, number_line, amounts_line, closing_sheet, sealed_sheet, closing_length, sealed_length, bytes_of, written_to, writes, after_writing, has_room};
 ghost use Rattle.sheet.specs.Close.{sheet_refusal, closed_to, answer_of};
@@ -124,14 +123,14 @@ pub fn write_refusal(out: &mut [u8], number: u8)
 // ---- digits
 
 pub fn digit_value(byte: u8) -> u8
-    ensures rule { result ≡ get_or (digit_value byte) 16 }
-    ensures table { result ≡ get_or (by_table byte) 16 }
+    ensures rule { result ≡ unwrap_or (digit_value byte) 16 }
+    ensures table { result ≡ unwrap_or (by_table byte) 16 }
 {
     digits::digit_value(byte)
 }
 
-pub fn number_at(s: &[u8], at: usize, digits: usize) -> digits::Number
-    ensures { result ≡ as_number (number_in digits s.now at) }
+pub fn number_at(s: &[u8], at: usize, digits: usize) -> Option<u32>
+    ensures { result ≡ number_in digits s.now at }
 {
     digits::number_at(s, at, digits)
 }

@@ -24,7 +24,9 @@ use Rattle.prices.proofs.Moving.{places-amount, demands-places, above_floors-pla
 use Rattle.rule.proofs.Path.{path-long}
 use Rattle.auction.proofs.Settling.{Ready, above_floors-wide}
 use Rattle.reasons.specs.Sheets.{reason_line}
-use Rattle.reasons.specs.Steps.{moving_set, move_by, ReasonIs, prices_after}
+use Rattle.reasons.specs.Steps.{move_of, moving_set, move_by, ReasonIs, prices_after}
+use Rattle.reasons.specs.declared.Move.{Move}
+use Rattle.reasons.specs.declared.Move.TheVariants.{Rise, Fall}
 use Rattle.reasons.specs.declared.Reason.{Reason}
 use Rattle.reasons.proofs.Lines.{line_of}
 
@@ -61,18 +63,20 @@ module _ (s : Sheet) (g : Ready s) (low : List ℕ) (floored : low ≡ places 32
     past-items =
         ap₂ (above_floors 32) floored here ∙ above_floors-wide items most s.floors q g.limits.floors.long (long k) ∙ sym above_is
 
-    module _ (falls : Bool) (turned : falls ≡ leb (close s).ups k) where
+    module _ (step : Move) (turned : step ≡ move_of (leb (close s).ups k)) where
       abbrev set : ℕ
-      set = moving_set falls items (above_floors items s.floors q) (demands_at s q)
+      set = moving_set step items (above_floors items s.floors q) (demands_at s q)
 
       -- the rounds to the turn raise, the others lower
-      round_is : round_of s k ≡ move_by falls set
-      round_is = by falls turned
+      round_is : round_of s k ≡ move_by step set
+      round_is =
+          subst (λ (x : Move). round_of s k ≡ move_by x (moving_set x items (above_floors items s.floors q) (demands_at s q))) (sym turned)
+          (by (leb (close s).ups k) refl)
         where
           ups-is : (close s).ups ≡ c.ups
           ups-is = ap (λ (t : State). t.ups) c.close_is
 
-          by : (f : Bool) → f ≡ leb (close s).ups k → round_of s k ≡ move_by f (moving_set f items (above_floors items s.floors q) (demands_at s q))
+          by : (f : Bool) → f ≡ leb (close s).ups k → round_of s k ≡ move_by (move_of f) (moving_set (move_of f) items (above_floors items s.floors q) (demands_at s q))
           by false e = c.rises k (omega (arith, ups-is, leb-false (close s).ups k (sym e)))
           by true e =
               let since : k ≡ c.ups + (k - c.ups) = omega (arith, ups-is, leb-true (close s).ups k (sym e)) in
@@ -80,19 +84,19 @@ module _ (s : Sheet) (g : Ready s) (low : List ℕ) (floored : low ≡ places 32
               (c.falls (k - c.ups) (omega (arith, since, l, count-is s c)))
 
       set-small : set < 2 ^ items
-      set-small = by falls
+      set-small = by step
         where
-          by : (f : Bool) → moving_set f items (above_floors items s.floors q) (demands_at s q) < 2 ^ items
-          by false = demand-bound items (demands_at s q)
-          by true = supply-bound items (above_floors items s.floors q) (demands_at s q)
+          by : (f : Move) → moving_set f items (above_floors items s.floors q) (demands_at s q) < 2 ^ items
+          by Rise = demand-bound items (demands_at s q)
+          by Fall = supply-bound items (above_floors items s.floors q) (demands_at s q)
 
-      module _ (r : Reason) (found : ReasonIs s.items (above_floors s.items low p) (demands s.items s.bids p) (surpluses s.items s.bids p) falls r) where
+      module _ (r : Reason) (found : ReasonIs s.items (above_floors s.items low p) (demands s.items s.bids p) (surpluses s.items s.bids p) step r) where
         -- at the path's own prices
-        found-there : ReasonIs items (above_floors items s.floors q) (demands_at s q) (surpluses s.items s.bids p) falls r
+        found-there : ReasonIs items (above_floors items s.floors q) (demands_at s q) (surpluses s.items s.bids p) step r
         found-there =
-            subst (λ (ds : List Demand). ReasonIs items (above_floors items s.floors q) ds (surpluses s.items s.bids p) falls r)
+            subst (λ (ds : List Demand). ReasonIs items (above_floors items s.floors q) ds (surpluses s.items s.bids p) step r)
             (ap (demands items s.bids) here ∙ demands-places items most q (long k) s.bids)
-            (subst (λ (a : ℕ). ReasonIs items a (demands items s.bids p) (surpluses s.items s.bids p) falls r)
+            (subst (λ (a : ℕ). ReasonIs items a (demands items s.bids p) (surpluses s.items s.bids p) step r)
             above_is found)
 
         pub line-is : reason_line (k + 1) (record { kind = r.kind; items = r.items; bidders = r.bidders }) ≡ line_of s k
@@ -106,27 +110,27 @@ module _ (s : Sheet) (g : Ready s) (low : List ℕ) (floored : low ≡ places 32
             made a b w = record { kind = a; items = b; bidders = w }
 
             there : rule.Reason
-            there = reason_of items (demands_at s q) (move_by falls set)
+            there = reason_of items (demands_at s q) (move_by step set)
 
         set_is : r.items ≡ set
         unfolding reason_of
-        set_is = found-there.items ∙ by falls
+        set_is = found-there.items ∙ by step
           where
-            by : (f : Bool) → (reason_of items (demands_at s q) (move_by f set)).items ≡ set
-            by false = refl
-            by true = refl
+            by : (f : Move) → (reason_of items (demands_at s q) (move_by f set)).items ≡ set
+            by Rise = refl
+            by Fall = refl
 
         -- the next round's prices
-        pub next-is : (next : List ℕ) → next ≡ prices_after falls p r.items → next ≡ places 32 (path s (k + 1)).prices
+        pub next-is : (next : List ℕ) → next ≡ prices_after step p r.items → next ≡ places 32 (path s (k + 1)).prices
         unfolding path after move
         next-is next e =
-            e ∙ ap₂ (prices_after falls) here set_is ∙ by falls set set-small
+            e ∙ ap₂ (prices_after step) here set_is ∙ by step set set-small
             ∙ ap (λ (x : Round). places 32 (move items (path s k) x).prices) (sym round_is) ∙ ap (λ (j : ℕ). places 32 (path s j).prices) (sym (add-one k))
           where
             one : (b : Bool) → to_nat b ≤ 1
             one true = omega arith
             one false = omega arith
 
-            by : (f : Bool) (x : ℕ) → x < 2 ^ items → prices_after f (places 32 q) x ≡ places 32 (move items (path s k) (move_by f x)).prices
-            by false x lx = raise-room (places 32 q) x (λ i. omega (arith, in-places i, c.range k i, one (has x i))) ∙ raise-places items most q (long k) x lx
-            by true x lx = lower-places items most q (long k) x lx
+            by : (f : Move) (x : ℕ) → x < 2 ^ items → prices_after f (places 32 q) x ≡ places 32 (move items (path s k) (move_by f x)).prices
+            by Rise x lx = raise-room (places 32 q) x (λ i. omega (arith, in-places i, c.range k i, one (has x i))) ∙ raise-places items most q (long k) x lx
+            by Fall x lx = lower-places items most q (long k) x lx

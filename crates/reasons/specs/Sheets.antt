@@ -1,6 +1,5 @@
 -- The sheet of reasons: document 02, #101. Assumes nothing: these are definitions.
-use Rattle.std.specs.Prelude.{ℕ, ◌+◌, true, cond, List, [], ◌++◌, ◌≡◌, ltb, length}
-use Rattle.std.proofs.Math.Option.{some}
+use Rattle.std.specs.Prelude.{ℕ, ◌+◌, true, cond, List, [], ◌++◌, ◌≡◌, ltb, length, Some}
 use Rattle.digits.specs.Digits.{hex}
 use Rattle.digits.specs.Reading.{number_at}
 use Rattle.lines.specs.Lines.{newline, joined, number_line}
@@ -38,8 +37,8 @@ answer_of bytes room = fitting room (reasons_in bytes)
 
 -- what the line at a place says: the round's number, its kind, the items and the bidders, as reading gives them, and byte 0a behind them
 pub record LineSays (bytes : List ℕ) (at number : ℕ) (r : Reason) : Type 0 where
-  pub number_is : number_at 4 bytes at ≡ some number
-  pub kind : number_at 2 bytes (at + 4) ≡ some r.kind
-  pub items : number_at 8 bytes (at + 6) ≡ some r.items
-  pub bidders : number_at 16 bytes (at + 14) ≡ some r.bidders
+  pub number_is : number_at 4 bytes at ≡ Some number
+  pub kind : number_at 2 bytes (at + 4) ≡ Some r.kind
+  pub items : number_at 8 bytes (at + 6) ≡ Some r.items
+  pub bidders : number_at 16 bytes (at + 14) ≡ Some r.bidders
   pub ends : ends_at bytes (at + 30) ≡ true

@@ -1,7 +1,7 @@
 // The sheet of reasons: why each round of a bid sheet's path moved its set.
 #![tactic(auto)]
 
-ghost use Rattle.std.specs.Prelude.{◌≡◌, cond, ◌+◌, ◌*◌, ◌≤◌, length, replicate};
+ghost use Rattle.std.specs.Prelude.{◌≡◌, cond, ◌+◌, ◌*◌, ◌≤◌, leb, length, replicate};
 ghost use Rattle.std.proofs.lemmas.List.Edits.{sets};
 ghost use Rattle.rule.specs.Demand.{demands, surpluses};
 ghost use Rattle.rule.specs.Excess.{above_floors};
@@ -12,59 +12,79 @@ ghost use Rattle.lines.specs.Lines.{number_line, written_to};
 ghost use Rattle.bids.specs.Lent.{rows_of, sheet_of};
 ghost use Rattle.bids.specs.Refusal.{sealed_refusal};
 ghost use Rattle.reasons.specs.Sheets.{reason_line, reason_sheet, fitting, answer_of};
-ghost use Rattle.reasons.specs.Steps.{counts_for, moving_set, ReasonIs, prices_after};
+ghost use Rattle.reasons.specs.Steps.{move_of, counts_for, moving_set, kind_of, ReasonIs, prices_after};
 
-// ---- a round: `falls` says whether it lowers, from the turn on, or raises
+use sets::Set;
 
-// Whether a demand counts: for a fall one that holds something in the set, for a rise one that holds nothing outside it.
-fn counts(items: u32, null: bool, set: u32, falls: bool) -> bool
-    ensures { result ≡ counts_for falls 32 set (record { null = null; items = items }) }
-{
-    if falls {
-        return sets::common_items(items, set) != 0;
-    }
-    if null {
-        return false;
-    }
-    sets::other_items(items, set) == 0
+// ---- a round
+
+// How a round moves its set: it raises it or, from the turn on, lowers it.
+#[derive(Clone, Copy)]
+enum Move {
+    Rise,
+    Fall,
 }
 
-// The bidders whose demands count.
-fn who(sets: &[u32; 64], nulls: u64, bidders: usize, set: u32, falls: bool) -> u64
-    requires { bidders ≤ 64 }
-    ensures { result ≡ bidders_with (reports bidders sets.now nulls) (counts_for falls 32 set) }
-{
-    let mut g: u64 = 0;
-    let mut b: usize = 0;
-    while b < bidders {
-        g = round::add_bidder(
-            g,
-            b + 1,
-            counts(sets[b], sets::has_bidder(nulls, b + 1), set, falls),
-        );
-        b += 1;
+impl Move {
+    // The move of round k + 1: the first so many rounds raise.
+    fn of_round(k: usize, raised: usize) -> Move
+        ensures { result ≡ move_of (leb raised k) }
+    {
+        if raised <= k { Move::Fall } else { Move::Rise }
     }
-    g
-}
 
-// The set that moves: of the demands the rising set, or the falling set.
-fn moving(sets: &[u32; 64], nulls: u64, above: u32, falls: bool) -> u32
-    ensures { result ≡ moving_set falls 32 above (reports 64 sets.now nulls) }
-{
-    if falls {
-        return round::falling(sets, above);
+    // Whether a demand counts: for a fall one that holds something in the set, for a rise one that holds nothing outside it.
+    fn counts(self, items: u32, null: bool, set: u32) -> bool
+        ensures { result ≡ counts_for self 32 set (record { null = null; items = items }) }
+    {
+        match self {
+            Move::Rise => !null && items.but(set) == 0,
+            Move::Fall => items.common(set) != 0,
+        }
     }
-    round::rising(sets, nulls)
-}
 
-// The kind's number: 1 raised, 2 lowered.
-fn kind(falls: bool) -> u32
-    ensures { result ≡ cond falls 2 1 }
-{
-    if falls {
-        return 2;
+    // The bidders whose demands count.
+    fn who(self, sets: &[u32; 64], nulls: u64, bidders: usize, set: u32) -> u64
+        requires { bidders ≤ 64 }
+        ensures { result ≡ bidders_with (reports bidders sets.now nulls) (counts_for self 32 set) }
+    {
+        let mut g: u64 = 0;
+        for (b, items) in sets[..bidders].iter().enumerate() {
+            let counted = self.counts(*items, nulls.has(b + 1), set);
+            g = round::add(g, b + 1, counted);
+        }
+        g
     }
-    1
+
+    // The set that moves: of the demands the rising set, or the falling set.
+    fn moving(self, sets: &[u32; 64], nulls: u64, above: u32) -> u32
+        ensures { result ≡ moving_set self 32 above (reports 64 sets.now nulls) }
+    {
+        match self {
+            Move::Rise => round::rising(sets, nulls),
+            Move::Fall => round::falling(sets, above),
+        }
+    }
+
+    // The kind's number, as a line has it: 1 raised, 2 lowered.
+    fn kind(self) -> u32
+        ensures { result ≡ kind_of self }
+    {
+        match self {
+            Move::Rise => 1,
+            Move::Fall => 2,
+        }
+    }
+
+    // The prices after the round.
+    fn moved(self, prices: &[u16; 32], set: u32) -> [u16; 32]
+        ensures { result ≡ prices_after self prices.now set }
+    {
+        match self {
+            Move::Rise => prices::raised(prices, set),
+            Move::Fall => prices::lowered(prices, set),
+        }
+    }
 }
 
 // A round's kind, the set that moves, and the bidders whose demands count; and each bidder's highest surplus, which was found with the demands.
@@ -77,32 +97,19 @@ struct Reason {
 }
 
 // The reason of the round at prices. A bid sheet has floors of 0.
-fn reason_at(prices: &[u16; 32], bids: &[u16], items: usize, bidders: usize, falls: bool) -> Reason
+fn reason_at(prices: &[u16; 32], bids: &[u16], items: usize, bidders: usize, step: Move) -> Reason
     requires { (items ≤ 32) × (bidders ≤ 64) × (length bids.now ≡ bidders * items) × (above_floors 32 (replicate 32 0) prices.now ≡ above_floors items (replicate 32 0) prices.now) }
-    ensures { ReasonIs items (above_floors items (replicate 32 0) prices.now) (demands items (rows_of items bidders bids.now) prices.now) (surpluses items (rows_of items bidders bids.now) prices.now) falls result }
+    ensures { ReasonIs items (above_floors items (replicate 32 0) prices.now) (demands items (rows_of items bidders bids.now) prices.now) (surpluses items (rows_of items bidders bids.now) prices.now) step result }
 {
     let d = demands::demands_at(prices, bids, items, bidders);
-    let sets = d.sets;
-    let nulls = d.nulls;
-    let surpluses = d.surpluses;
     let floors = [0u16; 32];
-    let set = moving(&sets, nulls, round::above_floors(&floors, prices), falls);
+    let set = step.moving(&d.sets, d.nulls, round::above_floors(&floors, prices));
     Reason {
-        kind: kind(falls),
+        kind: step.kind(),
         items: set,
-        bidders: who(&sets, nulls, bidders, set, falls),
-        surpluses: surpluses,
+        bidders: step.who(&d.sets, d.nulls, bidders, set),
+        surpluses: d.surpluses,
     }
-}
-
-// The prices after the round.
-fn moved(prices: &[u16; 32], set: u32, falls: bool) -> [u16; 32]
-    ensures { result ≡ prices_after falls prices.now set }
-{
-    if falls {
-        return prices::lowered(prices, set);
-    }
-    prices::raised(prices, set)
 }
 
 // ---- the sheet
@@ -135,13 +142,11 @@ fn put_rounds(
     ensures { out.new ≡ sets out.old 0 (reason_sheet (sheet_of items bidders start.now bids.now)) }
 {
     let mut p = prices::in_places(start);
-    let mut k: usize = 0;
-    while k < rounds {
-        let falls = raised <= k;
-        let r = reason_at(&p, bids, items, bidders, falls);
+    for k in 0..rounds {
+        let step = Move::of_round(k, raised);
+        let r = reason_at(&p, bids, items, bidders, step);
         put_line(out, 31 * k, k as u32 + 1, r.kind, r.items, r.bidders);
-        p = moved(&p, r.items, falls);
-        k += 1;
+        p = step.moved(&p, r.items);
     }
 }
 
@@ -185,10 +190,12 @@ pub fn answer(bytes: &[u8], out: &mut [u8]) -> usize
     if 0 < s.refusal {
         return put_number(s.refusal, out);
     }
-    let items = s.items;
-    let bidders = s.bidders;
-    let start = s.start;
-    let bids = s.bids;
-    let size = bidders * items;
-    put_sheet(items, bidders, &start[..items], &bids[..size], out)
+    let size = s.bidders * s.items;
+    put_sheet(
+        s.items,
+        s.bidders,
+        &s.start[..s.items],
+        &s.bids[..size],
+        out,
+    )
 }

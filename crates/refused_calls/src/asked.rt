@@ -1,8 +1,6 @@
 // A line of the input, 154 bytes: 48 with a letter and what is asked in words, then numbers in hexadecimal digits, each at its place.
-ghost use Rattle.io.specs.Counts.{IsPrefixLen};
+ghost use Rattle.std.specs.Prelude.{◌≤◌, length};
 
-use crate::tables;
-use digits::Number;
 use live::{Auction, Phase};
 
 // What is asked.
@@ -12,11 +10,7 @@ pub(crate) fn words(line: &[u8; 48]) {
 
 // The number in so many digits at a place; 0 where there is none.
 pub(crate) fn number(line: &[u8; 106], at: usize, digits: usize) -> u32 {
-    let read = digits::number_at(line, at, digits);
-    match read {
-        Number::Is(x) => x,
-        Number::Nothing => 0,
-    }
+    digits::number_at(line, at, digits).unwrap_or(0)
 }
 
 // A count, a place or a bidder's number: two digits.
@@ -24,26 +18,12 @@ pub(crate) fn count(line: &[u8; 106], at: usize) -> usize {
     number(line, at, 2) as usize
 }
 
-// As many of these numbers as the two digits at a place say; none where there are not so many.
-pub(crate) fn some_numbers(line: &[u8; 106], at: usize, numbers: &[u16]) -> usize
-    ensures { IsPrefixLen result numbers.now }
+// As many of these as the two digits at a place say; none where there are not so many.
+pub(crate) fn some<T>(line: &[u8; 106], at: usize, xs: &[T]) -> usize
+    ensures { result ≤ length xs.now }
 {
     let n = count(line, at);
-    if n <= numbers.len() {
-        return n;
-    }
-    0
-}
-
-// The same of bytes.
-pub(crate) fn some_bytes(line: &[u8; 106], at: usize, bytes: &[u8]) -> usize
-    ensures { IsPrefixLen result bytes.now }
-{
-    let n = count(line, at);
-    if n <= bytes.len() {
-        return n;
-    }
-    0
+    if n <= xs.len() { n } else { 0 }
 }
 
 // A price or a floor: four digits.
@@ -53,9 +33,8 @@ pub(crate) fn price(line: &[u8; 106], at: usize) -> u16 {
 
 // A set of bidders: sixteen digits.
 fn bidders(line: &[u8; 106], upper: usize, lower: usize) -> u64 {
-    let high = number(line, upper, 8) as u64;
-    let low = number(line, lower, 8) as u64;
-    (high << 32) | low
+    let high = u64::from(number(line, upper, 8));
+    high << 32 | u64::from(number(line, lower, 8))
 }
 
 // How the tables are lent: 1 one number too few, 2 one too many, else all of them.
@@ -65,15 +44,16 @@ pub(crate) fn lending(line: &[u8; 106]) -> u32 {
 
 // A number of a table: below 0 where the first two digits are not 0, and how much in four.
 pub(crate) fn signed(line: &[u8; 106], sign: usize, at: usize) -> i16 {
-    tables::signed(
-        number(line, sign, 2) != 0,
-        (number(line, at, 4) % 4097) as u16,
-    )
+    let much = (number(line, at, 4) % 4097) as i16;
+    if number(line, sign, 2) != 0 {
+        -much
+    } else {
+        much
+    }
 }
 
 fn phase(line: &[u8; 106]) -> Phase {
-    let p = number(line, 7, 1);
-    match p {
+    match number(line, 7, 1) {
         0 => Phase::Rising,
         1 => Phase::Falling,
         _ => Phase::Closed,
@@ -82,10 +62,9 @@ fn phase(line: &[u8; 106]) -> Phase {
 
 // The prices, or the floors, of items 1 and 2, and one more at a place.
 fn amounts(line: &[u8; 106], first: usize, second: usize, place: usize, more: usize) -> [u16; 32] {
-    let mut all = [0u16; 32];
-    let k = count(line, place);
-    if k < 32 {
-        all[k] = price(line, more);
+    let mut all = [0; 32];
+    if let Some(amount) = all.get_mut(count(line, place)) {
+        *amount = price(line, more);
     }
     all[0] = price(line, first);
     all[1] = price(line, second);
@@ -98,10 +77,9 @@ pub(crate) fn floors(line: &[u8; 106]) -> [u16; 32] {
 
 // The item sets of bidders 1 to 3, and one more at a place.
 fn sets(line: &[u8; 106]) -> [u32; 64] {
-    let mut all = [0u32; 64];
-    let k = count(line, 49);
-    if k < 64 {
-        all[k] = number(line, 52, 1);
+    let mut all = [0; 64];
+    if let Some(set) = all.get_mut(count(line, 49)) {
+        *set = number(line, 52, 1);
     }
     all[0] = number(line, 45, 1);
     all[1] = number(line, 46, 1);

@@ -2,24 +2,18 @@
 use crate::{asked, say};
 use live::Auction;
 
-fn wide(x: u16) -> u64 {
-    x as u64
-}
-
 // How long the part is, and its bids.
 fn show(part: &[u16]) {
     io::write_all(1, b" length ");
     io::print_decimal(1, part.len() as u64);
-    let mut k: usize = 0;
-    while k < part.len() {
+    for bid in part {
         io::write_all(1, b" ");
-        io::print_decimal(1, wide(part[k]));
-        k += 1;
+        io::print_decimal(1, u64::from(*bid));
     }
 }
 
 fn ask_of(line: &[u8; 106], bids: &[u16]) {
-    let n = asked::some_numbers(line, 7, bids);
+    let n = asked::some(line, 7, bids);
     let lent = &bids[..n];
     let items = asked::count(line, 1);
     let bidders = asked::count(line, 4);
@@ -31,12 +25,7 @@ fn ask_of(line: &[u8; 106], bids: &[u16]) {
 // Items, bidders, how many bids, bidder.
 pub(crate) fn ask(r: Auction, line: &[u8; 106]) -> Auction {
     let mut bids = [9u16; 65];
-    bids[0] = 1;
-    bids[1] = 2;
-    bids[2] = 3;
-    bids[3] = 4;
-    bids[4] = 5;
-    bids[5] = 6;
+    bids[..6].copy_from_slice(&[1, 2, 3, 4, 5, 6]);
     ask_of(line, &bids);
     r
 }

@@ -6,25 +6,23 @@
 mod asked; // asked.rt: a line of the input
 mod calls; // calls.rt: open, open with floors, report, end, clear and read
 mod line; // line.rt: a bidder's line
-mod record; // record.rt: records compared
+mod record; // record.rt: the record of zeros
 mod say; // say.rt: numbers and answers as text
 mod tables; // tables.rt: the tables that the calls are lent
 
 use live::Auction;
-
-// What a line leaves, and whether the input goes on.
-#[derive(Drop)]
-struct Turn {
-    next: Auction,
-    more: bool,
-}
+use tables::HELD_NUMBERS;
 
 // One line. A record that is given, `d`, is tried in all four calls; `n` fills the tables anew, `t` puts a number into one, `v` shows one; any other line is
 // words alone.
-fn answer(r: Auction, words: &[u8; 48], line: &[u8; 106], held: &mut [i16]) -> Auction {
+fn answer(
+    r: Auction,
+    words: &[u8; 48],
+    line: &[u8; 106],
+    held: &mut [i16; HELD_NUMBERS],
+) -> Auction {
     asked::words(words);
-    let letter = words[0];
-    match letter {
+    match words[0] {
         b'o' => calls::open(line, held),
         b'f' => calls::open_above(line, held),
         b'r' => calls::report(r, line, held),
@@ -40,37 +38,31 @@ fn answer(r: Auction, words: &[u8; 48], line: &[u8; 106], held: &mut [i16]) -> A
     }
 }
 
-fn take_turn(r: Auction, held: &mut [i16]) -> Turn {
+// The record that a line leaves, where there is one more.
+fn take_turn(r: Auction, held: &mut [i16; HELD_NUMBERS]) -> Option<Auction> {
     let mut words = [0u8; 48];
     let mut line = [0u8; 106];
     io::read_full(0, &mut words);
-    let got = io::read_full(0, &mut line);
-    if got < 106 {
-        return Turn {
-            next: r,
-            more: false,
-        };
+    if io::read_full(0, &mut line) < 106 {
+        return None;
     }
     let next = answer(r, &words, &line, held);
     io::write_all(1, b"\n");
-    Turn { next, more: true }
+    Some(next)
 }
 
-// The turns are counted down, as a proved loop has to end.
-fn run(held: &mut [i16]) {
+// The turns are counted, as a proved loop has to end.
+fn run(held: &mut [i16; HELD_NUMBERS]) {
     let mut r = record::zeros();
-    let mut turns: u32 = 1000;
-    while turns > 0 {
-        let t = take_turn(r, held);
-        if !t.more {
+    for _ in 0..1000 {
+        let Some(next) = take_turn(r, held) else {
             return;
-        }
-        r = t.next;
-        turns -= 1;
+        };
+        r = next;
     }
 }
 
 fn main() {
-    let mut held = [0i16; 69696];
+    let mut held = [0; HELD_NUMBERS];
     run(&mut held);
 }

@@ -1,5 +1,4 @@
 // Numbers and answers as text.
-use crate::tables;
 use live::{Ended, Kind};
 
 // A number of document 01 in two digits.
@@ -8,7 +7,7 @@ pub(crate) fn number(n: u8) {
     if n < 10 {
         io::write_all(1, b"0");
     }
-    io::print_decimal(1, n as u64);
+    io::print_decimal(1, u64::from(n));
 }
 
 fn kind(k: Kind) {
@@ -24,7 +23,7 @@ fn kind(k: Kind) {
 
 fn moved(k: Kind, set: u32) {
     kind(k);
-    io::print_decimal(1, set as u64);
+    io::print_decimal(1, u64::from(set));
 }
 
 // What ending a round gives.
@@ -54,7 +53,7 @@ pub(crate) fn signed(x: i16) {
     if x < 0 {
         io::write_all(1, b"-");
     }
-    io::print_decimal(1, tables::amount(x, x < 0));
+    io::print_decimal(1, u64::from(x.unsigned_abs()));
 }
 
 // The record beside an opening.

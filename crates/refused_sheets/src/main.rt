@@ -5,20 +5,12 @@
 
 ghost use Rattle.io.specs.Counts.{IsPrefixLen};
 
-use digits::Number;
-
 // How many bytes the sheet has; none where there are not so many.
 fn size(words: &[u8; 46], bytes: &[u8]) -> usize
     ensures { IsPrefixLen result bytes.now }
 {
-    let read = digits::number_at(words, 43, 2);
-    let Number::Is(n) = read else {
-        return 0;
-    };
-    if (n as usize) <= bytes.len() {
-        return n as usize;
-    }
-    0
+    let n = digits::number_at(words, 43, 2).unwrap_or(0) as usize;
+    if n <= bytes.len() { n } else { 0 }
 }
 
 fn closing(bytes: &[u8]) {
@@ -49,13 +41,11 @@ fn take_case() -> bool {
     true
 }
 
-// The cases are counted down, as a proved loop has to end.
+// At most so many cases, as a proved loop has to end.
 fn main() {
-    let mut cases: u32 = 1000;
-    while cases > 0 {
+    for _ in 0..1000 {
         if !take_case() {
             return;
         }
-        cases -= 1;
     }
 }

@@ -8,31 +8,27 @@ ghost use Rattle.sets.specs.Bit.{has};
 ghost use Rattle.reports.specs.Report.{saying, is_empty, unfit};
 ghost use Rattle.reports.specs.Places.{place_fits, all_fit, any_missing};
 
+use sets::Set;
+
 // the report says no, and its set is empty
 fn is_empty(null: bool, set: u32) -> bool
     ensures { result ≡ is_empty (saying null set) }
 {
-    if null {
-        return false;
-    }
-    set == 0
+    !null && set == 0
 }
 
 // the set holds an item beyond the count
 fn holds_beyond(items: usize, set: u32) -> bool
     ensures { result ≡ any_below 32 (λ k. leb items k && has set (suc k)) }
 {
-    sets::other_items(set, sets::first_items(items)) != 0
+    set.but(u32::first(items)) != 0
 }
 
 // number 8 refuses the report
 pub fn refuses(items: usize, null: bool, set: u32) -> bool
     ensures { result ≡ unfit items (saying null set) }
 {
-    if is_empty(null, set) {
-        return true;
-    }
-    holds_beyond(items, set)
+    is_empty(null, set) || holds_beyond(items, set)
 }
 
 // the place of bidder b holds what it may
@@ -42,25 +38,20 @@ fn place_fits(items: usize, bidders: usize, b: usize, reported: bool, null: bool
     if !reported {
         return is_empty(null, set);
     }
-    if bidders < b {
-        return false;
-    }
-    !refuses(items, null, set)
+    b <= bidders && !refuses(items, null, set)
 }
 
 // every place holds what it may
 pub fn all_fit(items: usize, bidders: usize, sets: &[u32], nulls: u64, reported: u64) -> bool
     ensures { result ≡ all_fit items bidders sets.now nulls reported }
 {
-    let mut k: usize = 0;
-    while k < sets.len() {
+    for (k, set) in sets.iter().enumerate() {
         let b = k + 1;
-        let has = sets::has_bidder(reported, b);
-        let null = sets::has_bidder(nulls, b);
-        if !place_fits(items, bidders, b, has, null, sets[k]) {
+        let has = reported.has(b);
+        let null = nulls.has(b);
+        if !place_fits(items, bidders, b, has, null, *set) {
             return false;
         }
-        k += 1;
     }
     true
 }
@@ -69,6 +60,6 @@ pub fn all_fit(items: usize, bidders: usize, sets: &[u32], nulls: u64, reported:
 pub fn misses(bidders: usize, reported: u64) -> bool
     ensures { result ≡ any_missing bidders reported }
 {
-    let here = sets::common_bidders(reported, sets::first_bidders(bidders));
+    let here = reported.common(u64::first(bidders));
     (sets::bidder_count(here) as usize) < bidders
 }

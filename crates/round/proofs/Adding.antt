@@ -1,5 +1,5 @@
 -- A set to which a loop adds its numbers one after the other. Assumes nothing.
-use Prim.Native.Nat.{ℕ, suc, ◌+◌, ◌^◌, ◌≤◌, ◌<◌}
+use Prim.Native.Nat.{ℕ, suc, ◌+◌, ◌≤◌, ◌<◌}
 use mathlib.Core.Path.{◌≡◌, refl, sym, ap, ap₂, ◌∙◌}
 use mathlib.Core.Bool.{Bool, true, false, ◌&&◌, ◌||◌}
 use mathlib.Core.Logic.{◌⊎◌, inl, inr}
@@ -12,22 +12,17 @@ use lib.Pow.{pow_mono}
 use borrow.Author.Tests.{eq-eqb, ne_eqb}
 use Rattle.sets.specs.Bit.{is_set, has, set_of}
 use Rattle.sets.proofs.Counting.{lt-or-le}
-use Rattle.sets.proofs.Members.{set_of-lt, is_set-set_of, is-set_of, is_set-above}
+use Rattle.sets.proofs.Members.{set_of-lt, set_of-cong, is_set-set_of, is-set_of, is_set-above}
 
 -- the number i is added
 pub add-on : (w s i : ℕ) (on : Bool) → on ≡ true → set_of w (λ k. has s k || eqb k i) ≡ set_of w (λ k. has s k || (on && eqb k i))
 add-on w s i on e = ap (λ (b : Bool). set_of w (λ k. has s k || (b && eqb k i))) (sym e)
 
--- or not
-pub add-off : (w s i : ℕ) (on : Bool) → s < 2 ^ w → on ≡ false → s ≡ set_of w (λ k. has s k || (on && eqb k i))
-add-off w s i on l e = same ∙ ap (λ (b : Bool). set_of w (λ k. has s k || (b && eqb k i))) (sym e)
-  where
-    or-false : (a : Bool) → a ≡ a || false
-    or-false true = refl
-    or-false false = refl
-
-    same : s ≡ set_of w (λ k. has s k || false)
-    same = unfold has in is-set_of w s (λ k. has s k || false) l (λ k lk. or-false (is_set s k))
+-- or not: number 0 is in no set
+pub add-off : (w s i n : ℕ) (on : Bool) → n ≡ 0 → on ≡ false → set_of w (λ k. has s k || eqb k n) ≡ set_of w (λ k. has s k || (on && eqb k i))
+add-off w s i n on z e =
+    set_of-cong w (λ k. has s k || eqb k n) (λ k. has s k || false) (λ k lk. ap (λ (b : Bool). has s (suc k) || b) (ne_eqb (suc k) n (λ q. omega arith)))
+    ∙ ap (λ (b : Bool). set_of w (λ k. has s k || (b && eqb k i))) (sym e)
 
 -- of the numbers 1 to i, those at which f is true, and number i + 1 where f is true there: those of 1 to i + 1
 module _ (w : ℕ) (f : ℕ → Bool) (i : ℕ) (l : i < w) where

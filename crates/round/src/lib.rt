@@ -9,60 +9,32 @@ ghost use Rattle.sets.specs.Lists.{tabulate};
 ghost use Rattle.rule.specs.Excess.{excess_demand, excess_supply, above_floors};
 ghost use Rattle.round.specs.Reports.{reports};
 
-// The set, and item i where `on` says so.
-pub fn add_item(s: u32, i: usize, on: bool) -> u32
-    ensures { result ≡ set_of 32 (λ k. has s k || (on && eqb k i)) }
-{
-    if on {
-        return sets::with_item(s, i);
-    }
-    s
-}
+use sets::Set;
+use std::array;
 
-// The set, and bidder i where `on` says so.
-pub fn add_bidder(s: u64, i: usize, on: bool) -> u64
-    ensures { result ≡ set_of 64 (λ k. has s k || (on && eqb k i)) }
+// The set, and the number where `on` says so: number 0 is in no set.
+pub fn add<S: Set>(set: S, number: usize, on: bool) -> S
+    ensures { S.bits result ≡ set_of S.width (λ k. has (S.bits set) k || (on && eqb k number)) }
 {
-    if on {
-        return sets::with_bidder(s, i);
-    }
-    s
-}
-
-// The set, or the empty one where `off` says so.
-fn unless(s: u32, off: bool) -> u32
-    ensures { result ≡ cond off 0 s }
-{
-    if off {
-        return 0;
-    }
-    s
+    let joins = if on { number } else { 0 };
+    set.with(joins)
 }
 
 // The item sets of the bidders who do not say null.
 fn active(sets: &[u32; 64], nulls: u64) -> [u32; 64]
     ensures { result ≡ tabulate 64 (λ b. cond (has nulls (b + 1)) 0 (get_or sets.now b 0)) 0 }
 {
-    let mut own = [0u32; 64];
-    let mut b: usize = 0;
-    while b < 64 {
-        own[b] = unless(sets[b], sets::has_bidder(nulls, b + 1));
-        b += 1;
-    }
-    own
+    array::from_fn(|b| {
+        let null = nulls.has(b + 1);
+        if null { 0 } else { sets[b] }
+    })
 }
 
 // The item sets, as far as they lie in `above`.
 fn inside(sets: &[u32; 64], above: u32) -> [u32; 64]
     ensures { result ≡ tabulate 64 (λ b. set_of 32 (λ k. has (get_or sets.now b 0) k && has above k)) 0 }
 {
-    let mut own = [0u32; 64];
-    let mut b: usize = 0;
-    while b < 64 {
-        own[b] = sets::common_items(sets[b], above);
-        b += 1;
-    }
-    own
+    array::from_fn(|b| sets[b].common(above))
 }
 
 // The rising set of reports.
@@ -79,7 +51,7 @@ pub fn falling(sets: &[u32; 64], above: u32) -> u32
 {
     let own = inside(sets, above);
     let kept = matching::excess_demand(&own);
-    sets::other_items(above, kept)
+    above.but(kept)
 }
 
 // The items of price above the floor.
@@ -87,10 +59,8 @@ pub fn above_floors(floors: &[u16; 32], prices: &[u16; 32]) -> u32
     ensures { result ≡ above_floors 32 floors.now prices.now }
 {
     let mut s: u32 = 0;
-    let mut i: usize = 0;
-    while i < 32 {
-        s = add_item(s, i + 1, floors[i] < prices[i]);
-        i += 1;
+    for i in 0..32 {
+        s = add(s, i + 1, floors[i] < prices[i]);
     }
     s
 }

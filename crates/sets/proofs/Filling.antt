@@ -1,12 +1,12 @@
 -- A list of w places that a loop fills one after the other. Assumes nothing.
-use Prim.Native.Nat.{ℕ, zero, suc, ◌+◌, ◌-◌, ◌≤◌, ◌<◌}
+use Prim.Native.Nat.{ℕ, zero, suc, ◌+◌, ◌-◌, ◌≤◌, ◌<◌, min}
 use mathlib.Core.Path.{◌≡◌, refl, sym, ap, ◌∙◌}
 use mathlib.Core.List.{List, ◌∷◌, ◌++◌}
 use mathlib.Core.Logic.{◌⊎◌, inl, inr}
 use native.Mathlib.Omega.{arith}
 use native.Mathlib.Nat.{not-suc-le-zero, zero-add}
 use lib.ListN.{length, get_or, take, drop, set, length-set, length-replicate, length-append, length-drop, replicate, get_or-replicate, get_or-append, get_or-eq_default}
-use lib.Seq.{get_or-set_same, get_or-set_other, get_or-drop, get_or-append-add, ext_get_or}
+use lib.Seq.{get_or-set_same, get_or-set_other, get_or-drop, get_or-append-add, get_or-take, length-take-le, ext_get_or}
 use borrow.Author.Count.{below_none, below_more}
 use Rattle.sets.specs.Lists.{tabulate, places}
 use Rattle.sets.proofs.Counting.{lt-or-le}
@@ -57,21 +57,36 @@ fill-places w ys i xs t l = is-tabulate w xs (λ k. get_or ys k 0) 0 t.long (λ 
     at k (inr q) = t.zeros k q ∙ sym (get_or-eq_default ys 0 {n = k} (omega arith))
 
 -- m numbers before zeros
-pub front-places : (w m : ℕ) (xs : List ℕ) → m ≤ w → length xs ≡ m → xs ++ drop m (replicate w 0) ≡ places w xs
-front-places w m xs l e =
+front : (w m : ℕ) (f : ℕ → ℕ) (xs : List ℕ) → m ≤ w → length xs ≡ m → ((k : ℕ) → k < m → get_or xs k 0 ≡ f k) → Filled w f m (xs ++ drop m (replicate w 0))
+front w m f xs l e h =
     let rest : List ℕ = drop m (replicate w 0) in
-    fill-places w xs m (xs ++ rest)
-    (record {
+    record {
       most = l;
       long = omega (arith, length-append xs rest, length-drop {A = ℕ} m (replicate w 0), length-replicate {A = ℕ} w 0);
-      done = λ k q. get_or-append xs rest 0 k (omega arith);
+      done = λ k q. get_or-append xs rest 0 k (omega arith) ∙ h k q;
       zeros =
           λ k q.
           let f : k ≡ length xs + (k - length xs) = omega arith in
           ap (λ (j : ℕ). get_or (xs ++ rest) j 0) f ∙ get_or-append-add xs rest (k - length xs) 0 ∙ get_or-drop m (replicate w 0) (k - length xs) 0
           ∙ zeros-at w (m + (k - length xs));
-    })
-    (omega arith)
+    }
+
+pub front-places : (w m : ℕ) (xs : List ℕ) → m ≤ w → length xs ≡ m → xs ++ drop m (replicate w 0) ≡ places w xs
+front-places w m xs l e = fill-places w xs m (xs ++ drop m (replicate w 0)) (front w m (λ k. get_or xs k 0) xs l e (λ k q. refl)) (omega arith)
+
+-- the first numbers of a list, as many as there are places for, before zeros
+pub cut-places : (w n : ℕ) (xs ys : List ℕ) → n ≡ min (length xs) w → ys ≡ take n xs → ys ++ drop n (replicate w 0) ≡ places w xs
+unfolding places
+cut-places w n xs ys m e = go (lt-or-le n w)
+  where
+    filled : Filled w (λ k. get_or xs k 0) n (ys ++ drop n (replicate w 0))
+    filled =
+        front w n (λ k. get_or xs k 0) ys (omega arith) (ap length e ∙ length-take-le n xs (omega arith))
+        (λ k q. ap (λ (zs : List ℕ). get_or zs k 0) e ∙ get_or-take n xs k 0 q)
+
+    go : (n < w) ⊎ (w ≤ n) → ys ++ drop n (replicate w 0) ≡ places w xs
+    go (inl l) = fill-places w xs n (ys ++ drop n (replicate w 0)) filled (omega arith)
+    go (inr l) = fill_end w (λ k. get_or xs k 0) n (ys ++ drop n (replicate w 0)) filled l
 
 -- zeros in w places
 pub zeros-places : (w m : ℕ) → places w (replicate m 0) ≡ replicate w 0

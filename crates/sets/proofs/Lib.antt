@@ -11,3 +11,4 @@ pub mod Words
 pub mod Largest
 pub mod Lists
 pub mod Filling
+pub mod FromFn

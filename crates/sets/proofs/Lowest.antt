@@ -2,6 +2,7 @@
 use Prim.Native.Nat.{ℕ, zero, suc, ◌/◌, ◌%◌, ◌^◌, ◌≤◌, ◌<◌}
 use mathlib.Core.Path.{◌≡◌, refl, ap, ◌∙◌}
 use mathlib.Core.Bool.{Bool, true, false, cond}
+use mathlib.Core.Logic.{◌⊎◌, inl, inr}
 use native.Mathlib.Omega.{arith}
 use native.Mathlib.Decide.{dec_le}
 use native.Mathlib.Nat.{lt-suc_self, not-suc-le-zero, zero-lt-suc, mod-lt, div-add-mod'}
@@ -11,8 +12,8 @@ use lib.Count.{count_trailing_zeros, under}
 use lib.Dec.{eqb}
 use lib.Pow.{shr_lt}
 use Rattle.sets.specs.Bit.{bit, is_set, has, lowest}
-use Rattle.sets.proofs.Counting.{and_below, not-both}
-use Rattle.sets.proofs.Members.{is_set-none, empty-has}
+use Rattle.sets.proofs.Counting.{and_below, lt-or-le, not-both}
+use Rattle.sets.proofs.Members.{is_set-none, empty-has, has-past}
 
 -- what the lowest is
 pub data Lowest (m : ℕ) (g : ℕ → Bool) : ℕ → Type 0 where
@@ -82,3 +83,15 @@ trailing zero s n h = absurd (n (lt-one h))
 trailing (suc w) s n h =
     trailing_at w s (s % 2) refl (mod-lt s (zero-lt-suc 1)) (count_trailing_zeros w (s / 2))
     (λ e. trailing w (s / 2) (λ z. n (omega (arith, div-add-mod' s 2))) (shr_lt w 1 (rw add-one h)))
+
+-- a wider word has no other lowest number
+pub lowest-wide : (v w s : ℕ) → w ≤ v → s < 2 ^ w → lowest v (has s) ≡ lowest w (has s)
+lowest-wide v w s l h = lowest-unique w (has s) (lowest v (has s)) (narrow (lowest v (has s)) (lowest_is v (has s)))
+  where
+    inside : (k : ℕ) → has s (suc k) ≡ true → (k < w) ⊎ (w ≤ k) → k < w
+    inside k e (inl q) = q
+    inside k e (inr q) = absurd (not-both (has s (suc k)) e (has-past w s (suc k) h (omega arith)))
+
+    narrow : (r : ℕ) → Lowest v (has s) r → Lowest w (has s) r
+    narrow r (item k q e b) = item k (inside k e (lt-or-le k w)) e b
+    narrow r (is-null n) = is-null (λ j q. n j (omega arith))

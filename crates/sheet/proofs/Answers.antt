@@ -13,10 +13,10 @@ use Rattle.lines.proofs.Numbered.{number-long, enough}
 use Rattle.lines.proofs.Stores.{sets-front}
 use Rattle.sheet.specs.Close.{bid_sheet_of, sheet_refusal, closing_of, by_number, closed_to, answer_of}
 use Rattle.sheet.specs.Steps.{Closed}
-use Rattle.sheet.specs.declared.Outcome.{Outcome}
-use Rattle.sheet.proofs.Ends.{by-some}
+use Rattle.std.specs.Prelude.{Result, Ok, Err}
+use Rattle.sheet.proofs.Ends.{by-some, was_accepted, was_refused}
 
-module _ (bytes out : List ℕ) (r : Outcome) (after : List ℕ) (closed : Closed bytes out r after) (room : 3 ≤ length out) where
+module _ (bytes out : List ℕ) (r : Result ℕ ℕ) (after : List ℕ) (closed : Closed bytes out r after) (room : 3 ≤ length out) where
   answered : answer_of bytes (length out) ≡ by_number (sheet_refusal bytes (length out)) (closing_of (bid_sheet_of bytes)) (number_line (sheet_refusal bytes (length out)))
   unfolding answer_of
   answered =
@@ -24,15 +24,18 @@ module _ (bytes out : List ℕ) (r : Outcome) (after : List ℕ) (closed : Close
       (le-ltb (length out) 3 room)
 
   -- with no number, the closing sheet is the answer
-  module _ (e : r.refusal ≡ 0) where
+  module _ (long : ℕ) (e : r ≡ Ok long) where
+    was : (sheet_refusal bytes (length out) ≡ 0) × (long ≡ length (closing_of (bid_sheet_of bytes)))
+    was = was_accepted (sheet_refusal bytes (length out)) _ long (sym e ∙ closed.outcome)
+
     none-given : sheet_refusal bytes (length out) ≡ 0
-    none-given = sym closed.number ∙ e
+    none-given = was.0
 
     closing-is : answer_of bytes (length out) ≡ closing_of (bid_sheet_of bytes)
     closing-is = answered ∙ ap (λ (k : ℕ). by_number k (closing_of (bid_sheet_of bytes)) (number_line (sheet_refusal bytes (length out)))) none-given
 
-    pub closing_long : r.length ≡ length (answer_of bytes (length out))
-    closing_long = closed.written ∙ ap (λ (k : ℕ). by_number k (length (closing_of (bid_sheet_of bytes))) 0) none-given ∙ ap length (sym closing-is)
+    pub closing_long : long ≡ length (answer_of bytes (length out))
+    closing_long = was.1 ∙ ap length (sym closing-is)
 
     pub closing-lent : after ≡ written_to out (answer_of bytes (length out))
     unfolding closed_to
@@ -42,26 +45,29 @@ module _ (bytes out : List ℕ) (r : Outcome) (after : List ℕ) (closed : Close
         ∙ ap (written_to out) (sym closing-is)
 
   -- with a number, its line is
-  module _ (e : r.refusal ≡ 0 → ⊥) where
-    given-one : sheet_refusal bytes (length out) ≡ 0 → ⊥
-    given-one z = e (closed.number ∙ z)
+  module _ (why : ℕ) (e : r ≡ Err why) where
+    given : (sheet_refusal bytes (length out) ≡ why) × (why ≡ 0 → ⊥)
+    given = was_refused (sheet_refusal bytes (length out)) why _ (sym e ∙ closed.outcome)
 
-    line-is : answer_of bytes (length out) ≡ number_line r.refusal
-    line-is = answered ∙ by-some (sheet_refusal bytes (length out)) given-one _ _ ∙ ap number_line (sym closed.number)
+    given-one : sheet_refusal bytes (length out) ≡ 0 → ⊥
+    given-one z = given.1 (sym given.0 ∙ z)
+
+    line-is : answer_of bytes (length out) ≡ number_line why
+    line-is = answered ∙ by-some (sheet_refusal bytes (length out)) given-one _ _ ∙ ap number_line given.0
 
     as_before : after ≡ out
     unfolding closed_to
     as_before = closed.lent ∙ by-some (sheet_refusal bytes (length out)) given-one _ _
 
     pub line-long : 3 ≡ length (answer_of bytes (length out))
-    line-long = sym (ap length line-is ∙ number-long r.refusal)
+    line-long = sym (ap length line-is ∙ number-long why)
 
-    pub line-lent : (last : List ℕ) → last ≡ cond (ltb (length after) 3) after (sets after 0 (number_line r.refusal)) → last ≡ written_to out (answer_of bytes (length out))
+    pub line-lent : (last : List ℕ) → last ≡ cond (ltb (length after) 3) after (sets after 0 (number_line why)) → last ≡ written_to out (answer_of bytes (length out))
     line-lent last l =
         l
-        ∙ ap (λ (x : List ℕ). cond (ltb (length x) 3) x (sets x 0 (number_line r.refusal))) as_before
-        ∙ enough 3 out (sets out 0 (number_line r.refusal)) room
-        ∙ sets-front out (number_line r.refusal) (omega (arith, number-long r.refusal))
+        ∙ ap (λ (x : List ℕ). cond (ltb (length x) 3) x (sets x 0 (number_line why))) as_before
+        ∙ enough 3 out (sets out 0 (number_line why)) room
+        ∙ sets-front out (number_line why) (omega (arith, number-long why))
         ∙ ap (written_to out) (sym line-is)
 
 -- no room for any answer

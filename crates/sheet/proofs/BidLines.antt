@@ -3,7 +3,7 @@ use Prim.Native.Nat.{ℕ, zero, suc, ◌+◌, ◌*◌, ◌-◌, ◌^◌, ◌≤�
 use mathlib.Core.Path.{◌≡◌, refl, sym, ap, ◌∙◌, subst}
 use mathlib.Core.Bool.{Bool, true, false, cond}
 use mathlib.Core.List.{List, [], ◌∷◌, ◌++◌}
-use mathlib.Core.Option.{Option, none, some, some-injective, none-ne-some}
+use Rattle.std.specs.Prelude.{Option, None, Some}
 use native.Mathlib.Omega.{arith}
 use native.Mathlib.Nat.{not-suc-le-zero, suc-mul, zero-mul, zero-add}
 use native.Mathlib.Decide.{dec_lt}
@@ -24,6 +24,7 @@ use Rattle.digits.proofs.Gives.{gives, gave}
 use Rattle.lines.proofs.Line.{line-at, line_read}
 use Rattle.sheet.specs.BidSheet.{bids_at}
 use Rattle.sheet.specs.Writing.{bid_line}
+use Rattle.std.proofs.lemmas.Option.{none-some}
 
 -- ---- lengths
 
@@ -72,12 +73,12 @@ pub record Bids (bytes : List ℕ) (at n m : ℕ) (xs : List ℕ) : Type 0 where
   pub stands : Stands bytes at (joined n (bid_line m xs))
   pub ends : at + (4 * m + 1) * n ≡ length bytes
 
-ended : (at l : ℕ) (xs : List ℕ) → cond (eqb at l) (some []) none ≡ some xs → (at ≡ l) × ([] ≡ xs)
+ended : (at l : ℕ) (xs : List ℕ) → cond (eqb at l) (Some []) None ≡ Some xs → (at ≡ l) × ([] ≡ xs)
 ended at l xs e = go (eqb at l) refl e
   where
-    go : (t : Bool) → eqb at l ≡ t → cond t (some []) none ≡ some xs → (at ≡ l) × ([] ≡ xs)
-    go true h f = (eqb-true at l h, some-injective [] xs f)
-    go false h f = absurd (none-ne-some xs f)
+    go : (t : Bool) → eqb at l ≡ t → cond t (Some []) None ≡ Some xs → (at ≡ l) × ([] ≡ xs)
+    go true h f = (eqb-true at l h, cc (f))
+    go false h f = absurd (none-some xs f)
 
 either : (p : ℕ → Type 0) (ys zs : List ℕ) → ((k : ℕ) → k < length ys → p (get_or ys k 0)) → ((k : ℕ) → k < length zs → p (get_or zs k 0))
     → (k : ℕ) → k < length ys + length zs → p (get_or (ys ++ zs) k 0)
@@ -95,7 +96,7 @@ empty [] e = refl
 empty (x ∷ xs) e = absurd (let f : ⊥ = omega arith in f)
 
 module _ (bytes : List ℕ) (m : ℕ) where
-  pub bids-read : (n at : ℕ) (xs : List ℕ) → at ≤ length bytes → bids_at n m bytes at ≡ some xs → Bids bytes at n m xs
+  pub bids-read : (n at : ℕ) (xs : List ℕ) → at ≤ length bytes → bids_at n m bytes at ≡ Some xs → Bids bytes at n m xs
   unfolding bids_at
   bids-read zero at xs l e =
       let w = ended at (length bytes) xs e in
@@ -108,9 +109,9 @@ module _ (bytes : List ℕ) (m : ℕ) where
         ends = z;
       })
   bids-read (suc n) at xs l e =
-      let g = gave (line_at m 4 bytes at) (λ ys. bids_at n m bytes (at + 4 * m + 1) >>= λ zs. some (ys ++ zs)) xs e in
+      let g = gave (line_at m 4 bytes at) (λ ys. bids_at n m bytes (at + 4 * m + 1) >>= λ zs. Some (ys ++ zs)) xs e in
       let ys : List ℕ = g.0 in
-      let h = gave (bids_at n m bytes (at + 4 * m + 1)) (λ zs. some (ys ++ zs)) xs g.2 in
+      let h = gave (bids_at n m bytes (at + 4 * m + 1)) (λ zs. Some (ys ++ zs)) xs g.2 in
       let zs : List ℕ = h.0 in
       let line = line_read bytes m 4 at ys l g.1 in
       let long : length ys ≡ m = line.0.many in
@@ -119,7 +120,7 @@ module _ (bytes : List ℕ) (m : ℕ) where
       let rest : Bids bytes (at + 4 * m + 1) n m zs = bids-read n (at + 4 * m + 1) zs next h.1 in
       let place : at + 4 * m + 1 ≡ at + length (joined m (λ k. hex 4 (get_or ys k 0)) ++ newline) = omega (arith, width) in
       let all : suc n * m ≡ length ys + length zs = omega (arith, suc-mul n m, rest.many, long) in
-      subst (λ (vs : List ℕ). Bids bytes at (suc n) m vs) (some-injective (ys ++ zs) xs h.2)
+      subst (λ (vs : List ℕ). Bids bytes at (suc n) m vs) (let same : ys ++ zs ≡ xs = cc (h.2) in same)
       (record {
         many = omega (arith, length-append ys zs, all);
         small = λ k q. either (λ x. x < 16 ^ 4) ys zs (λ i r. line.0.small i (omega arith)) (λ i r. rest.small i (omega (arith, r, rest.many))) k (omega (arith, q, all));
@@ -130,11 +131,11 @@ module _ (bytes : List ℕ) (m : ℕ) where
       })
 
   pub bids-at : (n at : ℕ) (xs : List ℕ) → length xs ≡ n * m → ((k : ℕ) → k < n * m → get_or xs k 0 < 16 ^ 4) → Stands bytes at (joined n (bid_line m xs))
-      → at + (4 * m + 1) * n ≡ length bytes → bids_at n m bytes at ≡ some xs
+      → at + (4 * m + 1) * n ≡ length bytes → bids_at n m bytes at ≡ Some xs
   unfolding bids_at
   bids-at zero at xs e h s l =
       let here : at ≡ length bytes = omega arith in
-      ap (λ (t : Bool). cond t (some []) none) (eq-eqb at (length bytes) here) ∙ ap {B = Option (List ℕ)} some (sym (empty xs (omega (arith, e, zero-mul m))))
+      ap (λ (t : Bool). cond t (Some []) None) (eq-eqb at (length bytes) here) ∙ ap {B = Option (List ℕ)} Some (sym (empty xs (omega (arith, e, zero-mul m))))
   bids-at (suc n) at xs e h s l =
       let ys : List ℕ = take m xs in
       let zs : List ℕ = drop m xs in
@@ -154,10 +155,10 @@ module _ (bytes : List ℕ) (m : ℕ) where
       λ k q. subst (λ (x : ℕ). x < 16 ^ 4) (sym (get_or-take m xs k 0 q)) (h k (omega arith)) in
       let zs-small : (k : ℕ) → k < n * m → get_or zs k 0 < 16 ^ 4 =
       λ k q. subst (λ (x : ℕ). x < 16 ^ 4) (sym (get_or-drop m xs k 0)) (h (m + k) (omega arith)) in
-      let is-ys : line_at m 4 bytes at ≡ some ys =
+      let is-ys : line_at m 4 bytes at ≡ Some ys =
       line-at bytes m 4 at (λ k. get_or ys k 0) ys-small (front bytes at line (joined n (bid_line m zs)) whole)
-      ∙ ap {B = Option (List ℕ)} some (sym (is-tabulate m ys (λ k. get_or ys k 0) 0 long (λ k q. ap (λ (j : ℕ). get_or ys j 0) (sym (zero-add k))))) in
-      let is-zs : bids_at n m bytes (at + 4 * m + 1) ≡ some zs = bids-at n (at + 4 * m + 1) zs rest zs-small behind (omega arith) in
-      gives (line_at m 4 bytes at) (λ us. bids_at n m bytes (at + 4 * m + 1) >>= λ vs. some (us ++ vs)) ys is-ys
-      ∙ gives (bids_at n m bytes (at + 4 * m + 1)) (λ vs. some (ys ++ vs)) zs is-zs
-      ∙ ap {B = Option (List ℕ)} some split
+      ∙ ap {B = Option (List ℕ)} Some (sym (is-tabulate m ys (λ k. get_or ys k 0) 0 long (λ k q. ap (λ (j : ℕ). get_or ys j 0) (sym (zero-add k))))) in
+      let is-zs : bids_at n m bytes (at + 4 * m + 1) ≡ Some zs = bids-at n (at + 4 * m + 1) zs rest zs-small behind (omega arith) in
+      gives (line_at m 4 bytes at) (λ us. bids_at n m bytes (at + 4 * m + 1) >>= λ vs. Some (us ++ vs)) ys is-ys
+      ∙ gives (bids_at n m bytes (at + 4 * m + 1)) (λ vs. Some (ys ++ vs)) zs is-zs
+      ∙ ap {B = Option (List ℕ)} Some split

@@ -3,13 +3,12 @@ use Prim.Native.Nat.{ℕ, zero, suc, ◌+◌, ◌*◌, ◌≤◌, ◌<◌}
 use mathlib.Core.Path.{◌≡◌, refl, sym, ap, ap₂, ◌∙◌}
 use mathlib.Core.Bool.{Bool, true, false, ◌||◌, cond}
 use mathlib.Core.List.{List, []}
-use mathlib.Core.Option
-use mathlib.Core.Option.{Option, none, some}
+use Rattle.std.specs.Prelude.{Option, None, Some, unwrap_or, slice_get}
 use native.Mathlib.Omega.{arith}
 use native.Mathlib.Nat.{mul-le-mul}
 use native.Mathlib.Decide.{dec_le}
 use lib.Dec.{ltb}
-use lib.ListN.{length, get_or, take, get_elem?}
+use lib.ListN.{length, get_or, take}
 use lib.Seq.{take_all, length-take-le, get_or-take}
 use Rattle.rule.specs.Refusal.{Refusal, first, bad_items, bad_bidders}
 use Rattle.rule.proofs.Refusal.{given, in-range}
@@ -26,14 +25,14 @@ number_same : (xs ys : List ℕ) (at n : ℕ) → ((k : ℕ) → k < n → digit
 unfolding number_at
 number_same xs ys at zero h = refl
 number_same xs ys at (suc n) h =
-    ap (λ (o : Option ℕ). o >>= λ x. digit_at xs (at + n) >>= λ d. some (16 * x + d)) (number_same xs ys at n (λ k l. h k (omega arith)))
-    ∙ ap (λ (o : Option ℕ). number_at n ys at >>= λ x. o >>= λ d. some (16 * x + d)) (h n (omega arith))
+    ap (λ (o : Option ℕ). o >>= λ x. digit_at xs (at + n) >>= λ d. Some (16 * x + d)) (number_same xs ys at n (λ k l. h k (omega arith)))
+    ∙ ap (λ (o : Option ℕ). number_at n ys at >>= λ x. o >>= λ d. Some (16 * x + d)) (h n (omega arith))
 
 front-digit : (bytes : List ℕ) (k j : ℕ) → k ≤ length bytes → j < k → digit_at (take k bytes) j ≡ digit_at bytes j
 unfolding digit_at
 front-digit bytes k j l h =
-    let e : get_elem? (take k bytes) j ≡ some (get_or bytes j 0) =
-    there (take k bytes) j (omega (arith, length-take-le k bytes l)) ∙ ap {B = Option ℕ} some (get_or-take k bytes j 0 h) in
+    let e : slice_get (take k bytes) j ≡ Some (get_or bytes j 0) =
+    there (take k bytes) j (omega (arith, length-take-le k bytes l)) ∙ ap {B = Option ℕ} Some (get_or-take k bytes j 0 h) in
     ap (λ (o : Option ℕ). o >>= digit_value) (e ∙ sym (there bytes j (omega arith)))
 
 front-number : (bytes : List ℕ) (k at n : ℕ) → k ≤ length bytes → at + n ≤ k → number_at n (take k bytes) at ≡ number_at n bytes at
@@ -57,7 +56,7 @@ by_tests false false false d rest h = given 6 d rest (h refl refl)
 
 -- by its counts
 judged_by : Option ℕ → Option ℕ → ℕ
-judged_by m n = judged (is_none m || is_none n) (bad_items (Option.get_or m 0)) (bad_bidders (Option.get_or n 0))
+judged_by m n = judged (is_none m || is_none n) (bad_items (unwrap_or m 0)) (bad_bidders (unwrap_or n 0))
 
 pub most-items : (m : ℕ) → bad_items m ≡ false → m ≤ 32
 unfolding bad_items
@@ -73,8 +72,8 @@ module _ (bytes : List ℕ) (long : 8390 ≤ length bytes) where
   no-sheet g h = go (read_sheet bytes) refl
     where
       go : (o : Option BidSheet) → read_sheet bytes ≡ o → is_none o ≡ true
-      go none e = refl
-      go (some s) e =
+      go None e = refl
+      go (Some s) e =
           let p = parts_are bytes s e in
           let same-m : items_of bytes ≡ s.items = items_are bytes s.items p.0 in
           let same-n : bidders_of bytes ≡ s.bidders = bidders_are bytes s.items p.0 s.bidders p.1 in

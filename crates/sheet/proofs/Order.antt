@@ -4,7 +4,7 @@ use Prim.Native.Nat.{ℕ, zero, suc, ◌+◌, ◌*◌}
 use mathlib.Core.Path.{◌≡◌, refl, sym, ap, ap₂, ◌∙◌}
 use mathlib.Core.Bool.{Bool, true, false, ◌||◌}
 use mathlib.Core.List.{List, [], ◌∷◌}
-use mathlib.Core.Option.{Option, none, some, get_or}
+use Rattle.std.specs.Prelude.{Option, None, Some, unwrap_or}
 use native.Mathlib.Omega.{arith}
 use Rattle.rule.specs.Refusal.{Refusal, on, first, bad_items, bad_bidders}
 use Rattle.rule.proofs.Refusal.{passed, given, first-nil}
@@ -61,21 +61,21 @@ module _ (bytes : List ℕ) where
   first-bytes : (a b : Bool) → is_none (items_in bytes) ≡ a → is_none (bidders_in bytes) ≡ b → is_none (items_in bytes) || is_none (bidders_in bytes) ≡ a || b
   first-bytes a b e f = ap₂ (λ (x y : Bool). x || y) e f
 
-  pub no_items : items_in bytes ≡ none → first (unreadable bytes []) ≡ 6
+  pub no_items : items_in bytes ≡ None → first (unreadable bytes []) ≡ 6
   no_items e = given 6 _ _ (first-bytes true (is_none (bidders_in bytes)) (ap is_none e) refl)
 
-  module _ (m : ℕ) (e : items_in bytes ≡ some m) where
+  module _ (m : ℕ) (e : items_in bytes ≡ Some m) where
     pub items_are : items_of bytes ≡ m
     unfolding items_of
-    items_are = ap (λ (o : Option ℕ). get_or o 0) e
+    items_are = ap (λ (o : Option ℕ). unwrap_or o 0) e
 
-    pub no-bidders : bidders_in bytes ≡ none → first (unreadable bytes []) ≡ 6
+    pub no-bidders : bidders_in bytes ≡ None → first (unreadable bytes []) ≡ 6
     no-bidders f = given 6 _ _ (first-bytes false true (ap is_none e) (ap is_none f))
 
-    module _ (n : ℕ) (f : bidders_in bytes ≡ some n) where
+    module _ (n : ℕ) (f : bidders_in bytes ≡ Some n) where
       pub bidders_are : bidders_of bytes ≡ n
       unfolding bidders_of
-      bidders_are = ap (λ (o : Option ℕ). get_or o 0) f
+      bidders_are = ap (λ (o : Option ℕ). unwrap_or o 0) f
 
       pub four-read : is_none (items_in bytes) || is_none (bidders_in bytes) ≡ false
       four-read = first-bytes false false (ap is_none e) (ap is_none f)
@@ -98,30 +98,30 @@ module _ (bytes : List ℕ) where
 
           -- what is read after the counts
           with_bids : List ℕ → List ℕ → Option BidSheet
-          with_bids start bids = some (record { items = m; bidders = n; start = start; bids = bids })
+          with_bids start bids = Some (record { items = m; bidders = n; start = start; bids = bids })
 
           by_lines : read_sheet bytes ≡ (line_at m 4 bytes 4 >>= λ start. bids_at n m bytes (5 + 4 * m) >>= with_bids start)
           unfolding read_sheet with_bids
           by_lines = gives (items_in bytes) _ m e ∙ gives (bidders_in bytes) _ n f
 
-          no-sheet : read_sheet bytes ≡ none → first (unreadable bytes []) ≡ 6
+          no-sheet : read_sheet bytes ≡ None → first (unreadable bytes []) ≡ 6
           no-sheet r = to-lines ∙ given 6 (is_none (read_sheet bytes)) _ (ap is_none r)
 
-          pub no_start : line_at m 4 bytes 4 ≡ none → first (unreadable bytes []) ≡ 6
+          pub no_start : line_at m 4 bytes 4 ≡ None → first (unreadable bytes []) ≡ 6
           no_start s = no-sheet (by_lines ∙ stops (line_at m 4 bytes 4) _ s)
 
-          module _ (start : List ℕ) (s : line_at m 4 bytes 4 ≡ some start) where
-            pub no-bids : bids_at n m bytes (5 + 4 * m) ≡ none → first (unreadable bytes []) ≡ 6
+          module _ (start : List ℕ) (s : line_at m 4 bytes 4 ≡ Some start) where
+            pub no-bids : bids_at n m bytes (5 + 4 * m) ≡ None → first (unreadable bytes []) ≡ 6
             no-bids b = no-sheet (by_lines ∙ gives (line_at m 4 bytes 4) _ start s ∙ stops (bids_at n m bytes (5 + 4 * m)) _ b)
 
-            module _ (bids : List ℕ) (b : bids_at n m bytes (5 + 4 * m) ≡ some bids) where
-              is-read : read_sheet bytes ≡ some (record { items = m; bidders = n; start = start; bids = bids })
+            module _ (bids : List ℕ) (b : bids_at n m bytes (5 + 4 * m) ≡ Some bids) where
+              is-read : read_sheet bytes ≡ Some (record { items = m; bidders = n; start = start; bids = bids })
               unfolding with_bids
               is-read = by_lines ∙ gives (line_at m 4 bytes 4) _ start s ∙ gives (bids_at n m bytes (5 + 4 * m)) _ bids b
 
               pub sheet_is : bid_sheet_of bytes ≡ record { items = m; bidders = n; start = start; bids = bids }
               unfolding bid_sheet_of
-              sheet_is = ap (λ (o : Option BidSheet). get_or o (record { items = 0; bidders = 0; start = []; bids = [] })) is-read
+              sheet_is = ap (λ (o : Option BidSheet). unwrap_or o (record { items = 0; bidders = 0; start = []; bids = [] })) is-read
 
               pub all_read : first (unreadable bytes []) ≡ 0
               all_read = to-lines ∙ passed 6 (is_none (read_sheet bytes)) [] (ap is_none is-read) ∙ first-nil

@@ -3,7 +3,7 @@
 use Prim.Native.Nat.{ℕ, ◌+◌, ◌*◌, ◌≤◌}
 use mathlib.Core.Path.{◌≡◌, sym, ap, ◌∙◌, subst}
 use mathlib.Core.List.{List, ◌++◌, append_assoc}
-use mathlib.Core.Option.{Option, some, some-injective}
+use Rattle.std.specs.Prelude.{Option, Some}
 use native.Mathlib.Omega.{arith}
 use native.Mathlib.Nat.{zero-add}
 use lib.ListN.{length, get_or, length-append}
@@ -67,7 +67,7 @@ sheet-length s =
 
 -- ---- written, and read
 
-pub read_written : (s : BidSheet) → Writable s → read_sheet (bid_sheet s) ≡ some s
+pub read_written : (s : BidSheet) → Writable s → read_sheet (bid_sheet s) ≡ Some s
 unfolding read_sheet items_in bidders_in counts prices rows
 read_written s w =
     let bytes : List ℕ = bid_sheet s in
@@ -81,21 +81,21 @@ read_written s w =
     let at_rows : 0 + length (counts s ++ prices s) ≡ 5 + 4 * m =
     omega (arith, length-append (counts s) (prices s), counts-length s, prices-length s) in
     let ends : 5 + 4 * m + (4 * m + 1) * n ≡ length bytes = sym (sheet-length s) in
-    let is_m : items_in bytes ≡ some m = number-at bytes 2 0 m w.items (front bytes 0 (hex 2 m) (hex 2 n) four) in
-    let is-n : bidders_in bytes ≡ some n =
+    let is_m : items_in bytes ≡ Some m = number-at bytes 2 0 m w.items (front bytes 0 (hex 2 m) (hex 2 n) four) in
+    let is-n : bidders_in bytes ≡ Some n =
     number-at bytes 2 2 n w.bidders (subst (λ (j : ℕ). Stands bytes j (hex 2 n)) at-two (back bytes 0 (hex 2 m) (hex 2 n) four)) in
-    let is-start : line_at m 4 bytes 4 ≡ some s.start =
+    let is-start : line_at m 4 bytes 4 ≡ Some s.start =
     line-at bytes m 4 4 (λ k. get_or s.start k 0) w.start
     (subst (λ (j : ℕ). Stands bytes j (prices s)) at-four (back bytes 0 (counts s) (prices s) first))
-    ∙ ap {B = Option (List ℕ)} some
+    ∙ ap {B = Option (List ℕ)} Some
     (sym (is-tabulate m s.start (λ k. get_or s.start k 0) 0 w.starts (λ k q. ap (λ (j : ℕ). get_or s.start j 0) (sym (zero-add k))))) in
-    let is-bids : bids_at n m bytes (5 + 4 * m) ≡ some s.bids =
+    let is-bids : bids_at n m bytes (5 + 4 * m) ≡ Some s.bids =
     bids-at bytes m n (5 + 4 * m) s.bids w.rows w.bids
     (subst (λ (j : ℕ). Stands bytes j (rows s)) at_rows (back bytes 0 (counts s ++ prices s) (rows s) all)) ends in
     gives (items_in bytes) _ m is_m
     ∙ gives (bidders_in bytes) _ n is-n
     ∙ gives (line_at m 4 bytes 4) _ s.start is-start
-    ∙ gives (bids_at n m bytes (5 + 4 * m)) (λ bids. some (record { items = m; bidders = n; start = s.start; bids = bids })) s.bids is-bids
+    ∙ gives (bids_at n m bytes (5 + 4 * m)) (λ bids. Some (record { items = m; bidders = n; start = s.start; bids = bids })) s.bids is-bids
 
 -- ---- read, and written
 
@@ -103,7 +103,7 @@ module _ (bytes : List ℕ) (m n : ℕ) (start bids : List ℕ) where
   sheet : BidSheet
   sheet = record { items = m; bidders = n; start = start; bids = bids }
 
-  parts-read : items_in bytes ≡ some m → bidders_in bytes ≡ some n → line_at m 4 bytes 4 ≡ some start → bids_at n m bytes (5 + 4 * m) ≡ some bids
+  parts-read : items_in bytes ≡ Some m → bidders_in bytes ≡ Some n → line_at m 4 bytes 4 ≡ Some start → bids_at n m bytes (5 + 4 * m) ≡ Some bids
       → Writable sheet × (bytes ≡ bid_sheet sheet)
   unfolding sheet items_in bidders_in counts prices rows
   parts-read is_m is-n is-start is-bids =
@@ -136,9 +136,9 @@ module _ (bytes : List ℕ) (m n : ℕ) (start bids : List ℕ) where
       )
 
 -- what was read is what stands where it is read
-pub parts_are : (bytes : List ℕ) (s : BidSheet) → read_sheet bytes ≡ some s
-    → (items_in bytes ≡ some s.items) × (bidders_in bytes ≡ some s.bidders) × (line_at s.items 4 bytes 4 ≡ some s.start)
-    × (bids_at s.bidders s.items bytes (5 + 4 * s.items) ≡ some s.bids)
+pub parts_are : (bytes : List ℕ) (s : BidSheet) → read_sheet bytes ≡ Some s
+    → (items_in bytes ≡ Some s.items) × (bidders_in bytes ≡ Some s.bidders) × (line_at s.items 4 bytes 4 ≡ Some s.start)
+    × (bids_at s.bidders s.items bytes (5 + 4 * s.items) ≡ Some s.bids)
 unfolding read_sheet
 parts_are bytes s e =
     let f = gave (items_in bytes) _ s e in
@@ -147,12 +147,12 @@ parts_are bytes s e =
     let k = gave (bids_at g.0 f.0 bytes (5 + 4 * f.0)) _ s h.2 in
     subst
     (λ (x : BidSheet).
-    (items_in bytes ≡ some x.items) × (bidders_in bytes ≡ some x.bidders) × (line_at x.items 4 bytes 4 ≡ some x.start)
-    × (bids_at x.bidders x.items bytes (5 + 4 * x.items) ≡ some x.bids))
-    (some-injective (record { items = f.0; bidders = g.0; start = h.0; bids = k.0 }) s k.2)
+    (items_in bytes ≡ Some x.items) × (bidders_in bytes ≡ Some x.bidders) × (line_at x.items 4 bytes 4 ≡ Some x.start)
+    × (bids_at x.bidders x.items bytes (5 + 4 * x.items) ≡ Some x.bids))
+    (let same : record { items = f.0; bidders = g.0; start = h.0; bids = k.0 } ≡ s = cc (k.2) in same)
     (f.1, g.1, h.1, k.1)
 
-pub written_read : (bytes : List ℕ) (s : BidSheet) → read_sheet bytes ≡ some s → Writable s × (bytes ≡ bid_sheet s)
+pub written_read : (bytes : List ℕ) (s : BidSheet) → read_sheet bytes ≡ Some s → Writable s × (bytes ≡ bid_sheet s)
 unfolding sheet
 written_read bytes s e =
     let p = parts_are bytes s e in

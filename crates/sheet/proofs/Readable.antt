@@ -3,7 +3,7 @@ use Prim.Native.Nat.{ℕ}
 use mathlib.Core.Path.{◌≡◌, refl, sym, ap, ap₂, ◌∙◌}
 use mathlib.Core.Bool.{false}
 use mathlib.Core.List.{List, [], ◌∷◌}
-use mathlib.Core.Option.{Option, none, some, get_or}
+use Rattle.std.specs.Prelude.{Option, None, Some, unwrap_or}
 use native.Mathlib.Omega.{arith}
 use lib.Dec.{ltb}
 use Rattle.rule.specs.Refusal.{on, first, bad_items, bad_bidders, any_over}
@@ -18,19 +18,19 @@ use Rattle.sheet.proofs.ReadWritten.{parts_are, written_read}
 
 -- it was read, its counts are in order, and it has a starting price for each item and a bid of each bidder for each
 pub record Readable (bytes : List ℕ) : Type 0 where
-  pub read : read_sheet bytes ≡ some (bid_sheet_of bytes)
+  pub read : read_sheet bytes ≡ Some (bid_sheet_of bytes)
   pub written : Writable (bid_sheet_of bytes)
   pub many-items : items_of bytes ≡ (bid_sheet_of bytes).items
   pub many-bidders : bidders_of bytes ≡ (bid_sheet_of bytes).bidders
   pub items : bad_items (bid_sheet_of bytes).items ≡ false
   pub bidders : bad_bidders (bid_sheet_of bytes).bidders ≡ false
 
-is-there : (bytes : List ℕ) (o : Option BidSheet) → read_sheet bytes ≡ o → is_none o ≡ false → read_sheet bytes ≡ some (bid_sheet_of bytes)
+is-there : (bytes : List ℕ) (o : Option BidSheet) → read_sheet bytes ≡ o → is_none o ≡ false → read_sheet bytes ≡ Some (bid_sheet_of bytes)
 unfolding bid_sheet_of
-is-there bytes none e f = absurd (let z : ◌≡◌ {A = ℕ} 0 1 = cc in let n : ⊥ = omega arith in n)
-is-there bytes (some s) e f =
-    let same : bid_sheet_of bytes ≡ s = ap (λ (o : Option BidSheet). get_or o (record { items = 0; bidders = 0; start = []; bids = [] })) e in
-    e ∙ ap {B = Option BidSheet} some (sym same)
+is-there bytes None e f = absurd (let z : ◌≡◌ {A = ℕ} 0 1 = cc in let n : ⊥ = omega arith in n)
+is-there bytes (Some s) e f =
+    let same : bid_sheet_of bytes ≡ s = ap (λ (o : Option BidSheet). unwrap_or o (record { items = 0; bidders = 0; start = []; bids = [] })) e in
+    e ∙ ap {B = Option BidSheet} Some (sym same)
 
 module _ (bytes : List ℕ) (z : first (unreadable bytes []) ≡ 0) where
   pub readable : Readable bytes

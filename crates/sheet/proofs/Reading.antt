@@ -8,7 +8,7 @@ use lib.Dec.{ltb}
 use lib.ListN.{length, take, drop, replicate}
 use borrow.Author.Tests.{le-ltb}
 use Rattle.sets.specs.Lists.{places}
-use Rattle.sets.proofs.Lists.{places-length, take_places}
+use Rattle.sets.proofs.Lists.{take_places}
 use Rattle.sets.proofs.Filling.{front-places}
 use Rattle.rule.specs.Refusal.{first}
 use Rattle.rule.proofs.Refusal.{passed}
@@ -62,8 +62,6 @@ pub record Parts (bytes : List ℕ) (r : Contents) : Type 0 where
   pub items : r.items ≤ 32
   pub bidders : r.bidders ≤ 64
   pub size : r.bidders * r.items ≤ 2048
-  pub start-places : length r.start ≡ 32
-  pub bids-places : length r.bids ≡ 2048
   pub starts : length (take r.items r.start) ≡ r.items
   pub rows : length (take (r.bidders * r.items) r.bids) ≡ r.bidders * r.items
   pub back : record { items = r.items; bidders = r.bidders; start = take r.items r.start; bids = take (r.bidders * r.items) r.bids }
@@ -88,8 +86,6 @@ module _ (bytes : List ℕ) (z : first (unreadable bytes []) ≡ 0) where
         items = m;
         bidders = n;
         size = all;
-        start-places = places-length 32 s.start;
-        bids-places = places-length 2048 s.bids;
         starts = ap length start ∙ w.written.starts;
         rows = ap length bids ∙ w.written.rows;
         back = ap₂ (λ (xs ys : List ℕ). record { items = s.items; bidders = s.bidders; start = xs; bids = ys }) start bids;
@@ -97,36 +93,19 @@ module _ (bytes : List ℕ) (z : first (unreadable bytes []) ≡ 0) where
 
 -- ---- what was read, whatever its amounts are
 
-module _ (bytes : List ℕ) (r : Contents) (e : r ≡ contents (first (unreadable bytes [])) (bid_sheet_of bytes)) where
-  pub reading-number : r.refusal ≡ first (unreadable bytes [])
-  reading-number = ap (λ (x : Contents). x.refusal) e ∙ number_is (first (unreadable bytes [])) (bid_sheet_of bytes)
+module _ (bytes : List ℕ) (r : Contents) (z : first (unreadable bytes []) ≡ 0) (e : r ≡ contents 0 (bid_sheet_of bytes)) where
+  pub parts : Parts bytes r
+  parts = subst (λ (x : Contents). Parts bytes x) (sym e) (has_parts bytes z)
 
-  -- turned down by then, it is handed back
-  pub handed-refused : (r.refusal ≡ 0 → ⊥) → r ≡ contents_of bytes
-  unfolding contents_of bid_sheet_refusal
-  handed-refused ne = e ∙ ap (λ (k : ℕ). contents k (bid_sheet_of bytes)) (same_rest bytes [] _ (λ z. absurd (ne (reading-number ∙ z))))
-
-  module _ (z : r.refusal ≡ 0) where
-    pub none-by-then : first (unreadable bytes []) ≡ 0
-    none-by-then = sym reading-number ∙ z
-
-    pub parts : Parts bytes r
-    parts = subst (λ (x : Contents). Parts bytes x) (sym (e ∙ ap (λ (k : ℕ). contents k (bid_sheet_of bytes)) none-by-then)) (has_parts bytes none-by-then)
-
-    -- the amounts decide
-    pub by-amounts : sealed_refusal r.items r.bidders (take r.items r.start) (take (r.bidders * r.items) r.bids) ≡ bid_sheet_refusal bytes
-    unfolding bid_sheet_refusal
-    by-amounts =
-        let w = readable bytes none-by-then in
-        let s : BidSheet = bid_sheet_of bytes in
-        ap (λ (x : BidSheet). sealed_refusal x.items x.bidders x.start x.bids) parts.back
-        ∙ amounts-alone s.items s.bidders s.start s.bids w.items w.bidders w.written.starts w.written.rows
-        ∙ sym (goes-on bytes _ none-by-then)
-
-    -- if they are not too high, it is handed back too
-    pub handed-whole : sealed_refusal r.items r.bidders (take r.items r.start) (take (r.bidders * r.items) r.bids) ≡ 0 → r ≡ contents_of bytes
-    unfolding contents_of
-    handed-whole f = e ∙ ap (λ (k : ℕ). contents k (bid_sheet_of bytes)) (none-by-then ∙ sym f ∙ by-amounts)
+  -- the amounts decide
+  pub by-amounts : sealed_refusal r.items r.bidders (take r.items r.start) (take (r.bidders * r.items) r.bids) ≡ bid_sheet_refusal bytes
+  unfolding bid_sheet_refusal
+  by-amounts =
+      let w = readable bytes z in
+      let s : BidSheet = bid_sheet_of bytes in
+      ap (λ (x : BidSheet). sealed_refusal x.items x.bidders x.start x.bids) parts.back
+      ∙ amounts-alone s.items s.bidders s.start s.bids w.items w.bidders w.written.starts w.written.rows
+      ∙ sym (goes-on bytes _ z)
 
 -- ---- what a bid sheet says
 
@@ -146,11 +125,11 @@ module _ (bytes : List ℕ) (r : Contents) (e : r ≡ contents_of bytes) where
   in_order z =
       let f : bid_sheet_refusal bytes ≡ 0 = sym contents-number ∙ z in
       let g : first (unreadable bytes []) ≡ 0 = (none-given bytes _ f).0 in
-      let h : r ≡ contents (first (unreadable bytes [])) (bid_sheet_of bytes) = e ∙ ap (λ (k : ℕ). contents k (bid_sheet_of bytes)) (f ∙ sym g) in
-      let p : Parts bytes r = parts bytes r h z in
+      let h : r ≡ contents 0 (bid_sheet_of bytes) = e ∙ ap (λ (k : ℕ). contents k (bid_sheet_of bytes)) f in
+      let p : Parts bytes r = parts bytes r g h in
       record {
         parts = p;
-        accepted = by-amounts bytes r h z ∙ f;
+        accepted = by-amounts bytes r g h ∙ f;
         sheet = ap (λ (x : BidSheet). sheet_of x.items x.bidders x.start x.bids) p.back;
       }
 

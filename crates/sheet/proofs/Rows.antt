@@ -3,7 +3,7 @@ use Prim.Native.Nat.{ℕ, zero, suc, ◌+◌, ◌*◌, ◌-◌, ◌≤◌, ◌<�
 use mathlib.Core.Path.{◌≡◌, refl, sym, ap, ◌∙◌}
 use mathlib.Core.Bool.{Bool, true, false, cond}
 use mathlib.Core.List.{List, [], ◌++◌, append_assoc, append-nil}
-use mathlib.Core.Option.{Option, none, some}
+use Rattle.std.specs.Prelude.{Option, None, Some}
 use native.Mathlib.Omega.{arith}
 use native.Mathlib.Nat.{lt_irrefl, suc-mul, mul-le-mul, mul-le-mul_right}
 use native.Mathlib.Numerals.{add-one}
@@ -52,23 +52,23 @@ module _ (into : List ℕ) (b m : ℕ) (fits : b * m + m ≤ length into) where
 
 module _ (bytes : List ℕ) (m : ℕ) where
   -- a line that was read ends within the bytes
-  pub line-inside : (here : ℕ) (xs : List ℕ) → here ≤ length bytes → line_at m 4 bytes here ≡ some xs → here + (4 * m + 1) ≤ length bytes
+  pub line-inside : (here : ℕ) (xs : List ℕ) → here ≤ length bytes → line_at m 4 bytes here ≡ Some xs → here + (4 * m + 1) ≤ length bytes
   line-inside here xs l e = omega (arith, (line_read bytes m 4 here xs l e).1.fits, line-length m 4 xs)
 
-  pub bids-stop : (j here : ℕ) → 0 < j → line_at m 4 bytes here ≡ none → bids_at j m bytes here ≡ none
+  pub bids-stop : (j here : ℕ) → 0 < j → line_at m 4 bytes here ≡ None → bids_at j m bytes here ≡ None
   unfolding bids_at
   bids-stop zero here l e = absurd (lt_irrefl 0 l)
-  bids-stop (suc j) here l e = ap (λ (o : Option (List ℕ)). o >>= λ xs. bids_at j m bytes (here + 4 * m + 1) >>= λ ys. some (xs ++ ys)) e
+  bids-stop (suc j) here l e = ap (λ (o : Option (List ℕ)). o >>= λ xs. bids_at j m bytes (here + 4 * m + 1) >>= λ ys. Some (xs ++ ys)) e
 
-  first_of : (j here : ℕ) (xs : List ℕ) → 0 < j → line_at m 4 bytes here ≡ some xs → bids_at j m bytes here ≡ ahead xs (bids_at (j - 1) m bytes (here + (4 * m + 1)))
+  first_of : (j here : ℕ) (xs : List ℕ) → 0 < j → line_at m 4 bytes here ≡ Some xs → bids_at j m bytes here ≡ ahead xs (bids_at (j - 1) m bytes (here + (4 * m + 1)))
   unfolding bids_at
   first_of zero here xs l e = absurd (lt_irrefl 0 l)
   first_of (suc j) here xs l e =
       let f : suc j - 1 ≡ j = omega arith in
       let g : here + (4 * m + 1) ≡ here + 4 * m + 1 = omega arith in
-      rw (f, g) (gives (line_at m 4 bytes here) (λ ys. bids_at j m bytes (here + 4 * m + 1) >>= λ zs. some (ys ++ zs)) xs e)
+      rw (f, g) (gives (line_at m 4 bytes here) (λ ys. bids_at j m bytes (here + 4 * m + 1) >>= λ zs. Some (ys ++ zs)) xs e)
 
-  pub bids-step : (all : Option (List ℕ)) (before : List ℕ) (n b here : ℕ) (xs : List ℕ) → b < n → line_at m 4 bytes here ≡ some xs
+  pub bids-step : (all : Option (List ℕ)) (before : List ℕ) (n b here : ℕ) (xs : List ℕ) → b < n → line_at m 4 bytes here ≡ Some xs
       → all ≡ ahead before (bids_at (n - b) m bytes here) → all ≡ ahead (before ++ xs) (bids_at (n - (b + 1)) m bytes (here + (4 * m + 1)))
   bids-step all before n b here xs l e h =
       let f : n - b - 1 ≡ n - (b + 1) = omega arith in
@@ -84,6 +84,6 @@ module _ (bytes : List ℕ) (m : ℕ) where
       let f : n - b ≡ 0 = omega arith in
       h ∙ ap (λ (j : ℕ). ahead before (bids_at j m bytes here)) f ∙ go (eqb here (length bytes))
     where
-      go : (t : Bool) → ahead before (cond t (some []) none) ≡ read_as t before
-      go true = ap {B = Option (List ℕ)} some (append-nil before)
+      go : (t : Bool) → ahead before (cond t (Some []) None) ≡ read_as t before
+      go true = ap {B = Option (List ℕ)} Some (append-nil before)
       go false = refl

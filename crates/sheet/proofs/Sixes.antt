@@ -3,7 +3,7 @@ use Prim.Native.Nat.{ℕ, suc}
 use mathlib.Core.Path.{◌≡◌, refl, ap}
 use mathlib.Core.Bool.{Bool, true, false, ◌||◌}
 use mathlib.Core.List.{List, [], ◌∷◌}
-use mathlib.Core.Option.{some}
+use Rattle.std.specs.Prelude.{Some}
 use native.Mathlib.Omega.{arith}
 use Rattle.rule.specs.Refusal.{Refusal, on, first}
 use Rattle.rule.proofs.Refusal.{other}
@@ -36,7 +36,7 @@ none_before false false false false rest one two six = refl
 
 module _ (bytes : List ℕ) (room : ℕ) where
   -- what is read is not turned down with 6
-  pub read_no_six : (s : BidSheet) → read_sheet bytes ≡ some s → sheet_refusal bytes room ≡ 6 → ⊥
+  pub read_no_six : (s : BidSheet) → read_sheet bytes ≡ Some s → sheet_refusal bytes room ≡ 6 → ⊥
   unfolding sheet_refusal
   read_no_six s e six =
       let p = parts_are bytes s e in
@@ -49,7 +49,7 @@ module _ (bytes : List ℕ) (room : ℕ) where
 
   -- bytes that are not turned down with 6, nor before that, are the sheet that was read
   pub not_six_read : (sheet_refusal bytes room ≡ 1 → ⊥) → (sheet_refusal bytes room ≡ 2 → ⊥) → (sheet_refusal bytes room ≡ 6 → ⊥)
-      → (read_sheet bytes ≡ some (bid_sheet_of bytes)) × Writable (bid_sheet_of bytes) × (bytes ≡ bid_sheet (bid_sheet_of bytes))
+      → (read_sheet bytes ≡ Some (bid_sheet_of bytes)) × Writable (bid_sheet_of bytes) × (bytes ≡ bid_sheet (bid_sheet_of bytes))
   unfolding sheet_refusal
   not_six_read one two six =
       let r = (readable bytes (none_before _ _ _ _ _ one two six)).read in

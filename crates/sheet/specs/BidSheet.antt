@@ -1,7 +1,6 @@
 -- Bid sheets: document 01, "Sheets". Lines of hexadecimal, each ended by byte 0a; reading goes on from the byte after the last line read. Assumes nothing: these
 -- are definitions.
-use Rattle.std.specs.Prelude.{ℕ, zero, suc, ◌+◌, ◌*◌, cond, List, [], ◌++◌, eqb, length}
-use Rattle.std.proofs.Math.Option.{Option, none, some}
+use Rattle.std.specs.Prelude.{ℕ, zero, suc, ◌+◌, ◌*◌, cond, List, [], ◌++◌, eqb, length, Option, None, Some}
 use Rattle.digits.specs.Reading.{◌>>=◌, number_at}
 use Rattle.lines.specs.Reading.{line_at}
 
@@ -21,11 +20,11 @@ bidders_in bytes = number_at 2 bytes 2
 
 -- from a place on: one line for each of n bidders, a bid for each of m items as 4 digits, and nothing after the last line
 unfoldable pub bids_at : (n m : ℕ) → List ℕ → ℕ → Option (List ℕ)
-bids_at zero m bytes at = cond (eqb at (length bytes)) (some []) none
+bids_at zero m bytes at = cond (eqb at (length bytes)) (Some []) None
 bids_at (suc n) m bytes at = do
   xs ← line_at m 4 bytes at
   ys ← bids_at n m bytes (at + 4 * m + 1)
-  some (xs ++ ys)
+  Some (xs ++ ys)
 
 -- the first line goes on with each starting price as 4 digits; then come the bids
 unfoldable pub read_sheet : List ℕ → Option BidSheet
@@ -34,4 +33,4 @@ read_sheet bytes = do
   n ← bidders_in bytes
   start ← line_at m 4 bytes 4
   bids ← bids_at n m bytes (5 + 4 * m)
-  some (record { items = m; bidders = n; start = start; bids = bids })
+  Some (record { items = m; bidders = n; start = start; bids = bids })

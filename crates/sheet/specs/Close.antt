@@ -1,6 +1,5 @@
 -- A bid sheet is closed: which number turns it down, and what the lent bytes hold afterwards. Assumes nothing: these are definitions.
-use Rattle.std.specs.Prelude.{ℕ, zero, suc, Bool, true, false, ◌||◌, cond, List, [], ◌∷◌, ltb, length}
-use Rattle.std.proofs.Math.Option.{Option, none, some, get_or}
+use Rattle.std.specs.Prelude.{ℕ, zero, suc, Bool, true, false, ◌||◌, cond, List, [], ◌∷◌, ltb, length, Option, None, Some, unwrap_or}
 use Rattle.rule.specs.Refusal.{Refusal, on, first, bad_items, bad_bidders, any_over}
 use Rattle.lines.specs.Lines.{number_line, sealed_sheet, sealed_length, written_to}
 use Rattle.auction.specs.Sealed.{sealed_of}
@@ -8,18 +7,18 @@ use Rattle.sheet.specs.BidSheet.{BidSheet, items_in, bidders_in, read_sheet}
 
 -- nothing was read
 abbrev pub is_none : {A : Type 0} → Option A → Bool
-is_none none = true
-is_none (some a) = false
+is_none None = true
+is_none (Some a) = false
 
 -- the counts of a sheet's first four bytes, and what the sheet says; zeros and nothing where it could not be read
 unfoldable pub items_of : List ℕ → ℕ
-items_of bytes = get_or (items_in bytes) 0
+items_of bytes = unwrap_or (items_in bytes) 0
 
 unfoldable pub bidders_of : List ℕ → ℕ
-bidders_of bytes = get_or (bidders_in bytes) 0
+bidders_of bytes = unwrap_or (bidders_in bytes) 0
 
 unfoldable pub bid_sheet_of : List ℕ → BidSheet
-bid_sheet_of bytes = get_or (read_sheet bytes) (record { items = 0; bidders = 0; start = []; bids = [] })
+bid_sheet_of bytes = unwrap_or (read_sheet bytes) (record { items = 0; bidders = 0; start = []; bids = [] })
 
 -- what is asked before the amounts of a sheet are, and then what `rest` asks: 6 for the first four bytes, 1, 2, 6 for the rest
 abbrev pub unreadable : List ℕ → List Refusal → List Refusal

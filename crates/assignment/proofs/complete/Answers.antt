@@ -8,8 +8,8 @@ pub returns : goal.returns
 returns c =
     let a = c.args in
     let own = c.reported-own in
-    let all = c.first_bidders in
-    let must = c.other_bidders-must in
+    let all = c.first in
+    let must = c.but-must in
     let m = c.cover in
     complete-of a.n c.requires a.sets.now a.nulls a.above own.result own.ensures.0 own.ensures.1 all.result must.result (all.ensures ∙ first-all 64 a.n c.requires) must.ensures
     m.result.found m.result.holder m.ensures.0

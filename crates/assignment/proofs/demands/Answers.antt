@@ -1,33 +1,16 @@
--- `assignment::demands` meets its contract: each turn fills one place. Assumes nothing.
-use Prim.Native.Nat.{ℕ}
-use mathlib.Core.Path.{ap, ◌∙◌}
-use mathlib.Core.Bool.{Bool}
-use native.Mathlib.Omega.{arith}
-use lib.ListN.{get_or, length-set, length-replicate}
-use lib.Seq.{get_or-set_same, get_or-set_other}
-use borrow.Author.Count.{below_more}
-use Rattle.sets.specs.Bit.{is_set}
-use Rattle.rule.specs.Demand.{wants}
+-- `assignment::demands` meets its contract: each place is filled by a call. Assumes nothing.
+use Prim.Native.Nat.{◌+◌, ◌*◌}
+use mathlib.Core.Path.{◌≡◌}
+use lib.ListN.{get_or}
+use Rattle.std.proofs.Common.{rules}
+use Rattle.sets.specs.Bit.{has}
+use Rattle.std.specs.Int.{from_bool}
+use Rattle.sets.proofs.FromFn.{from_fn-each}
+use Rattle.assignment.proofs.Places.{places_have}
 use Rattle.assignment.proofs.demands.Goals as goal
-
-pub loop-b-init : goal.loop-b-init
-loop-b-init c = (omega arith, length-replicate {A = ℕ} 64 0, λ d l. absurd (let no : ⊥ = omega arith in no))
-
-pub loop-b-preserved : goal.loop-b-preserved
-loop-b-preserved c =
-    let a = c.args in
-    let at = c.loop-b in
-    let lt = c.loop-b-test.true in
-    let long = at.invariant.1 in
-    let v = c.places_of in (
-      omega arith,
-      length-set at.w at.b v.result ∙ at.invariant.1,
-      below_more _ _ (λ d l p. ap (λ (s : ℕ). is_set s p) (get_or-set_other at.w at.b d v.result 0 (λ q. omega arith)) ∙ at.invariant.2 d l p)
-          (λ p. ap (λ (s : ℕ). is_set s p) (get_or-set_same at.w at.b v.result 0 (omega arith)) ∙ v.ensures p
-          ∙ ap (λ (t : Bool). wants (record { null = t; items = get_or a.sets.now at.b 0 }) p) c.has_bidder.ensures),
-    )
 
 pub returns : goal.returns
 returns c =
-    let at = c.loop-b in
-    λ b p l. at.invariant.2 b (omega (arith, l, c.loop-b-test.false)) p
+    let a = c.args in
+    λ b p l. places_have (get_or a.sets.now b 0) (get_or c.from_fn.result b 0) (has a.nulls (b + 1))
+    (from_fn-each _ _ 64 (λ i y. y ≡ get_or a.sets.now i 0 * 2 + from_bool (has a.nulls (i + 1))) (λ q i y li s. search rules) c.from_fn.result c.from_fn.ensures.items b l) p

@@ -1,6 +1,5 @@
 -- `assignment::first` meets its contract. Where nothing completes from the start, the names are zeros too. Assumes nothing.
 use mathlib.Core.Path.{sym, ◌∙◌}
-use borrow.Author.Tests.{not-true, not-false}
 use Rattle.assignment.proofs.Unfit.{assigned-many, assigned-unfit, assigned-is}
 use Rattle.assignment.proofs.first.Goals as goal
 
@@ -13,18 +12,18 @@ pub returns-then-not-c : goal.returns-then-not-c
 returns-then-not-c c =
     let a = c.args in
     let f = c.complete-c in
-    assigned-unfit a.sets.now a.nulls a.above a.bidders c.if-bidders-gt64.false (sym f.ensures.is ∙ not-true f.result.found c.if-not-c.true)
+    assigned-unfit a.sets.now a.nulls a.above a.bidders c.if-bidders-gt64.false (sym f.ensures.is ∙ c.if-not-c.true)
 
 pub seats-requires : goal.seats-requires
 seats-requires c =
     let f = c.complete-c in
-    f.ensures.small (not-false f.result.found c.if-not-c.false)
+    f.ensures.small c.if-not-c.false
 
 pub options-requires : goal.options-requires
 options-requires c =
     let f = c.complete-c in
     let s = c.seats in
-    (c.if-bidders-gt64.false, s.ensures.0, f.ensures.completes (not-false f.result.found c.if-not-c.false) s.result s.ensures.1)
+    (c.if-bidders-gt64.false, f.ensures.completes c.if-not-c.false s.result s.ensures)
 
 pub returns : goal.returns
 returns c =

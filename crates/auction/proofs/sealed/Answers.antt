@@ -1,10 +1,7 @@
 -- `auction::sealed` meets its contract: it is the sealed auction with floors of 0. Assumes nothing.
 use Prim.Native.Nat.{ℕ}
-use mathlib.Core.Path.{sym, ap, ◌∙◌}
+use mathlib.Core.Path.{ap, ◌∙◌}
 use mathlib.Core.List.{List}
-use native.Mathlib.Omega.{arith}
-use lib.ListN.{replicate, length-replicate}
-use lib.Seq.{length-take-le}
 use Rattle.sets.proofs.Filling.{take-zeros}
 use Rattle.auction.specs.Sealed.{sealed_above_of}
 use Rattle.auction.proofs.Sealing.{too-many-items, zero-floors, sealed-promised}
@@ -15,9 +12,6 @@ returns-then-items-gt32 c =
     let a = c.args in
     let e = c.refused.ensures ∙ too-many-items a.items a.bidders a.start.now a.bids.now c.if-items-gt32.true in
     record { outcome = e; promised = sealed-promised a.items a.bidders a.start.now a.bids.now _ e }
-
-pub slice_bounds-sealed_above-end : goal.slice_bounds-sealed_above-end
-slice_bounds-sealed_above-end c = sym (length-take-le c.args.items (replicate 32 0) (omega (arith, length-replicate {A = ℕ} 32 0, c.if-items-gt32.false)))
 
 pub returns : goal.returns
 returns c =

@@ -1,29 +1,21 @@
 -- `auction::sealed_above` meets its contract. The steps' answers make up the close of the sheet's path, which promises all that demand 3 asks. Assumes nothing.
-use mathlib.Core.Path.{sym, ◌∙◌}
-use Rattle.bids.proofs.Limits.{fine}
-use Rattle.bids.proofs.Fitting.{bids-fit}
-use Rattle.auction.proofs.Sealing.{above-refused, above-promised, sealed-is}
+use mathlib.Core.Path.{ap, ◌∙◌}
+use Rattle.auction.specs.Sealed.{closed}
+use Rattle.auction.proofs.Sealing.{above-refused, above-closed, above-promised, closed-is}
 use Rattle.auction.proofs.sealed_above.Goals as goal
 
-pub returns-then-why-ne0 : goal.returns-then-why-ne0
-returns-then-why-ne0 c =
+pub returns-in-Ok : goal.returns-in-Ok
+returns-in-Ok c =
     let a = c.args in
-    let e = c.refused.ensures ∙ above-refused a.items a.bidders a.start.now a.floors.now a.bids.now c.refusal_above-why.result c.refusal_above-why.ensures c.if-why-ne0.true in
+    let s = c.in-Ok in
+    let p = c.rounds in
+    let e = closed-is s.sheet p.result.raised p.result.lowered p.result.prices c.named.result c.named.ensures p.ensures.2 p.ensures.0 p.ensures.1
+    ∙ ap closed s.ensures.1 ∙ above-closed a.items a.bidders a.start.now a.floors.now a.bids.now s.ensures.0 in
     record { outcome = e; promised = above-promised a.items a.bidders a.start.now a.floors.now a.bids.now _ e }
 
-pub rounds-path-requires : goal.rounds-path-requires
-rounds-path-requires c = sym c.refusal_above-why.ensures ∙ c.if-why-ne0.false
-
-pub named-requires : goal.named-requires
-named-requires c =
+pub returns-in-Err : goal.returns-in-Err
+returns-in-Err c =
     let a = c.args in
-    let f = fine a.items a.bidders a.start.now a.floors.now a.bids.now (sym c.refusal_above-why.ensures ∙ c.if-why-ne0.false) in
-    (bids-fit f, f.floors-long)
-
-pub returns : goal.returns
-returns c =
-    let a = c.args in
-    let p = c.rounds-path in
-    let e = sealed-is a.items a.bidders a.start.now a.floors.now a.bids.now (sym c.refusal_above-why.ensures ∙ c.if-why-ne0.false)
-    p.result.raised p.result.lowered p.result.prices c.named.result c.named.ensures p.ensures.2 p.ensures.0 p.ensures.1 in
+    let s = c.in-Err in
+    let e = c.refused.ensures ∙ above-refused a.items a.bidders a.start.now a.floors.now a.bids.now s.why s.ensures.0 s.ensures.1 in
     record { outcome = e; promised = above-promised a.items a.bidders a.start.now a.floors.now a.bids.now _ e }

@@ -1,15 +1,13 @@
 -- `bench_exports::end_number` meets its contract. Assumes nothing.
+use Rattle.std.proofs.Common.{arith}
+use Rattle.std.proofs.lemmas.Grind.{common_steps}
 use Rattle.live.specs.Calls.{ending_of}
 use Rattle.bench_exports.specs.Lent.{end_number_of}
 use Rattle.bench_exports.proofs.end_number.Goals as goal
 
 pub returns-in-Moved : goal.returns-in-Moved
 unfolding end_number_of ending_of
-returns-in-Moved c = simp c.in-Moved.is
-
-pub returns-in-Closed : goal.returns-in-Closed
-unfolding end_number_of ending_of
-returns-in-Closed c = simp c.in-Closed.is
+returns-in-Moved c = grind (arith, common_steps)
 
 pub returns-in-Refused : goal.returns-in-Refused
 unfolding end_number_of ending_of

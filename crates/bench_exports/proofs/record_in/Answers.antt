@@ -4,4 +4,4 @@ use Rattle.bench_exports.proofs.record_in.Goals as goal
 
 pub returns : goal.returns
 unfolding record_in
-returns c = simp c.phase_of-phase.ensures
+returns c = simp c.phase_of.ensures

@@ -3,8 +3,6 @@ use Prim.Native.Nat.{ℕ}
 use mathlib.Core.Path.{sym, ap, ◌∙◌}
 use mathlib.Core.List.{List}
 use native.Mathlib.Omega.{arith}
-use lib.ListN.{replicate, length-replicate}
-use lib.Seq.{length-take-le}
 use Rattle.sets.proofs.Filling.{take-zeros}
 use Rattle.rule.specs.Refusal.{bad_items}
 use Rattle.rule.proofs.Refusal.{given, over-range}
@@ -17,9 +15,6 @@ unfolding sealed_refusal bad_items
 returns-then-items-gt32 c =
     let a = c.args in
     sym (given 1 (bad_items a.items) _ (over-range 32 a.items (omega (arith, c.if-items-gt32.true)) c.if-items-gt32.true))
-
-pub slice_bounds-refusal_above-end : goal.slice_bounds-refusal_above-end
-slice_bounds-refusal_above-end c = sym (length-take-le c.args.items (replicate 32 0) (omega (arith, length-replicate {A = ℕ} 32 0, c.if-items-gt32.false)))
 
 pub returns : goal.returns
 returns c =

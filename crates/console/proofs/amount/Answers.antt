@@ -1,14 +1,15 @@
 -- `console::amount` meets its contract. Assumes nothing.
-use Prim.Native.Nat.{◌+◌, ◌*◌, ◌<◌}
+use Prim.Native.Nat.{◌+◌, ◌*◌}
 use mathlib.Core.Path.{◌≡◌, sym, ◌∙◌}
-use mathlib.Core.Option.{some, some-injective}
+use Rattle.std.specs.Prelude.{Some}
+use Rattle.std.proofs.lemmas.Option.{none-some}
 use native.Mathlib.Omega.{arith}
 use lib.ListN.{get_or}
 use Rattle.digits.specs.Reading.{number_at}
 use Rattle.digits.proofs.Numbers.{number_read}
+use Rattle.digits.proofs.Walking.{was-read}
 use Rattle.console.specs.Orders.{amounts_of}
-use Rattle.console.proofs.Lines.{number_is, number-not}
-use Rattle.console.proofs.Amounts.{all-amounts, past-amounts, none-some}
+use Rattle.console.proofs.Amounts.{all-amounts, past-amounts}
 use Rattle.console.proofs.amount.Goals as goal
 
 pub returns-then-rest-i : goal.returns-then-rest-i
@@ -18,25 +19,19 @@ returns-then-rest-i c =
 
 pub overflow_cast-result : goal.overflow_cast-result
 overflow_cast-result c =
-    let read : number_at 4 c.args.line.now (5 + 4 * c.args.i) ≡ some c.in-Is.a =
-    let a = c.args in number_is 4 (5 + 4 * a.i) a.line.now c.number_at-x.result c.in-Is.a (omega arith) c.number_at-x.ensures c.in-Is.is in
-    let small : c.in-Is.a < 65536 =
     let a = c.args in
-    (number_read a.line.now 4 (5 + 4 * a.i) c.in-Is.a (omega (arith, c.rest.ensures)) (read)).0 in
+    let read : number_at 4 a.line.now (5 + 4 * a.i) ≡ Some c.in-Some.a = was-read 4 (5 + 4 * a.i) a.line.now c.number_at.result _ (omega arith) c.number_at.ensures c.in-Some.is in
+    let small = (number_read a.line.now 4 (5 + 4 * a.i) c.in-Some.a (omega (arith, c.rest.ensures)) read).0 in
     omega (arith, small)
 
-pub returns-in-Is : goal.returns-in-Is
-returns-in-Is c =
-    let read : number_at 4 c.args.line.now (5 + 4 * c.args.i) ≡ some c.in-Is.a =
-    let a = c.args in number_is 4 (5 + 4 * a.i) a.line.now c.number_at-x.result c.in-Is.a (omega arith) c.number_at-x.ensures c.in-Is.is in
-    let value : c.in-Is.a ≡ get_or (amounts_of c.args.line.now) c.args.i 0 =
+pub returns-in-Some : goal.returns-in-Some
+returns-in-Some c =
     let a = c.args in
-    some-injective c.in-Is.a (get_or (amounts_of a.line.now) a.i 0)
-    (sym (read) ∙ (all-amounts a.line.now c.requires.0).1 a.i (omega (arith, c.rest.ensures))) in
-    value
+    let read : number_at 4 a.line.now (5 + 4 * a.i) ≡ Some c.in-Some.a = was-read 4 (5 + 4 * a.i) a.line.now c.number_at.result _ (omega arith) c.number_at.ensures c.in-Some.is in
+    cc (read, (all-amounts a.line.now c.requires.0).1 a.i (omega (arith, c.rest.ensures)))
 
-pub returns-in-Nothing : goal.returns-in-Nothing
-returns-in-Nothing c =
+pub returns-in-None : goal.returns-in-None
+returns-in-None c =
     let a = c.args in
-    let there = number-not 4 (5 + 4 * a.i) a.line.now c.number_at-x.result (omega arith) c.number_at-x.ensures c.in-Nothing.is in
+    let there = was-read 4 (5 + 4 * a.i) a.line.now c.number_at.result _ (omega arith) c.number_at.ensures c.in-None.is in
     absurd (none-some (get_or (amounts_of a.line.now) a.i 0) (sym there ∙ (all-amounts a.line.now c.requires.0).1 a.i (omega (arith, c.rest.ensures))))

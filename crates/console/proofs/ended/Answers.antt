@@ -12,20 +12,20 @@ unfolding ending_of move_of
 moved-requires c =
     let raises : ending_of c.args.step.ended ≡ gives (raised c.in-Moved.set) =
     ap ending_of (c.in-Moved.is ∙ ap (λ (k : Kind). Moved k c.in-Moved.set) c.in-Raised.is) in
-    (c.requires.0, c.requires.1 (raised c.in-Moved.set) (raises))
+    c.requires (raised c.in-Moved.set) raises
 
 pub moved-requires-in-Lowered : goal.moved-requires-in-Lowered
 unfolding ending_of move_of
 moved-requires-in-Lowered c =
     let lowers : ending_of c.args.step.ended ≡ gives (lowered c.in-Moved.set) =
     ap ending_of (c.in-Moved.is ∙ ap (λ (k : Kind). Moved k c.in-Moved.set) c.in-Lowered.is) in
-    (c.requires.0, c.requires.1 (lowered c.in-Moved.set) (lowers))
+    c.requires (lowered c.in-Moved.set) lowers
 
 pub moved-requires-in-Closed : goal.moved-requires-in-Closed
 unfolding ending_of
 moved-requires-in-Closed c =
     let closes : ending_of c.args.step.ended ≡ gives closed = ap ending_of c.in-Closed.is in
-    (c.requires.0, c.requires.1 closed (closes))
+    c.requires closed closes
 
 pub returns-in-Raised : goal.returns-in-Raised
 unfolding ending_of move_of

@@ -1,21 +1,11 @@
 -- `console::first_amounts` meets its contract. Assumes nothing.
+use borrow.Author.Rules.{rules}
+use lib.ListN.{get_or}
 use Rattle.sets.specs.Lists.{places}
-use Rattle.sets.proofs.Filling.{fill_start, fill-next, fill_end}
+use Rattle.sets.proofs.FromFn.{from_fn-tabulate}
+use Rattle.console.specs.Orders.{amounts_of}
 use Rattle.console.proofs.first_amounts.Goals as goal
-
-pub loop-i-init : goal.loop-i-init
-loop-i-init c = (fill_start 65 _, c.requires)
-
-pub amount-requires : goal.amount-requires
-amount-requires c = (c.loop-i.invariant.1, c.loop-i-test.true)
-
-pub loop-i-preserved : goal.loop-i-preserved
-loop-i-preserved c =
-    let at = c.loop-i in
-    (fill-next 65 _ at.i at.amounts c.amount.result at.invariant.0 c.loop-i-test.true c.amount.ensures, at.invariant.1)
 
 pub returns : goal.returns
 unfolding places
-returns c =
-    let at = c.loop-i in
-    fill_end 65 _ at.i at.amounts at.invariant.0 c.loop-i-test.false
+returns c = from_fn-tabulate _ _ 65 (λ k. get_or (amounts_of c.args.line.now) k 0) (λ q i y l k. search rules) _ c.from_fn.ensures.items

@@ -7,4 +7,4 @@ returns c =
     let a = c.args in
     let m = c.put_round in
     let p = c.priced in
-    move-put a.kind a.set a.next a.out.now m.new.out p.new.out p.result c.requires.1 m.ensures p.ensures.0 p.ensures.1
+    move-put a.kind a.set a.next a.out.now m.new.out p.new.out p.result c.requires m.ensures p.ensures.0 p.ensures.1

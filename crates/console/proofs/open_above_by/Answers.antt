@@ -8,14 +8,14 @@ use Rattle.console.proofs.Enough.{first-65-above, number-65-above, part_length}
 use Rattle.console.proofs.open_above_by.Goals as goal
 
 pub slice_bounds-open_split-end : goal.slice_bounds-open_split-end
-slice_bounds-open_split-end c = part_length _ _ _ _ c.first_amounts-amounts.ensures c.least-count.ensures
+slice_bounds-open_split-end c = part_length _ _ _ _ c.first_amounts-amounts.ensures c.min-count.ensures
 
 pub returns : goal.returns
 unfolding starts_of floors_of
 returns c =
     let ts = c.args.tables.now in
     let xs = amounts_of c.args.line.now in
-    let k = read_count c.args.line.now c.requires _ _ c.rest.ensures c.least-count.ensures in (
+    let k = read_count c.args.line.now c.requires _ _ c.rest.ensures c.min-count.ensures in (
       c.open_split.ensures.0 ∙ first-65-above c.args.items c.args.bidders ts xs _ _ c.first_amounts-amounts.ensures k,
       c.open_split.ensures.1 ∙ ap (λ (x : ℕ). filled_by x c.args.items c.args.bidders ts) (number-65-above c.args.items c.args.bidders ts xs _ _ c.first_amounts-amounts.ensures k),
     )

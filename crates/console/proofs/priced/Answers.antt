@@ -8,4 +8,4 @@ pub returns : goal.returns
 returns c =
     let a = c.args in
     let w = c.write_prices in
-    (refl, prices-put a.next a.out.now w.new.out a.at c.requires.0 (omega (arith, c.requires.1, c.requires.2)) w.ensures.1)
+    (refl, prices-put a.next a.out.now w.new.out a.at c.requires.0 (omega (arith, c.requires.1)) w.ensures.1)

@@ -1,54 +1,63 @@
 -- `console::reporting` meets its contract. Assumes nothing.
+use Prim.Native.Nat.{ℕ}
 use mathlib.Core.Path.{◌≡◌}
-use mathlib.Core.Option.{some}
+use Rattle.std.specs.Prelude.{None, Some}
 use native.Mathlib.Omega.{arith}
 use Rattle.digits.specs.Reading.{number_at}
-use Rattle.console.proofs.Lines.{number_is, number-not, not-long, no-bidder, no-null, no-set, other-null, a-report}
+use Rattle.digits.proofs.Walking.{was-read}
+use Rattle.console.proofs.Lines.{not-long, no-bidder, no-null, no-set, other-null, a-report}
 use Rattle.console.proofs.reporting.Goals as goal
 
 pub returns-then-line-ne13 : goal.returns-then-line-ne13
 returns-then-line-ne13 c = not-long c.args.line.now c.if-line-ne13.true
 
-pub returns-in_default : goal.returns-in_default
-returns-in_default c =
+pub returns-in_err-bidder : goal.returns-in_err-bidder
+returns-in_err-bidder c =
     let line = c.args.line.now in
-    no-bidder line c.if-line-ne13.false (number-not 2 1 line c.number_at.result (omega arith) c.number_at.ensures c.in_default.is)
+    let long = c.if-line-ne13.false in
+    let none : number_at 2 line 1 ≡ None = was-read 2 1 line c.number_at.result _ (omega arith) c.number_at.ensures c.in_err-bidder.was in
+    rw c.from_residual.ensures (no-bidder line long none)
 
-pub returns-in_default-number_at : goal.returns-in_default-number_at
-returns-in_default-number_at c =
-    let bidder-is : number_at 2 c.args.line.now 1 ≡ some c.in-Is.bidder =
-    number_is 2 1 c.args.line.now c.number_at.result c.in-Is.bidder (omega arith) c.number_at.ensures c.in-Is.is in
+pub returns-in_err-null : goal.returns-in_err-null
+returns-in_err-null c =
     let line = c.args.line.now in
-    no-null line c.if-line-ne13.false c.in-Is.bidder (bidder-is) (number-not 2 3 line c.number_at-2.result (omega arith) c.number_at-2.ensures c.in_default-number_at.is)
+    let long = c.if-line-ne13.false in
+    let b : ℕ = c.in_ok-bidder.field-0 in
+    let bidder-is : number_at 2 line 1 ≡ Some b = was-read 2 1 line c.number_at.result _ (omega arith) c.number_at.ensures c.in_ok-bidder.was in
+    let none : number_at 2 line 3 ≡ None = was-read 2 3 line c.number_at-2.result _ (omega arith) c.number_at-2.ensures c.in_err-null.was in
+    rw c.from_residual-in_err-null.ensures (no-null line long b bidder-is none)
 
-pub returns-in_default-number_at-2 : goal.returns-in_default-number_at-2
-returns-in_default-number_at-2 c =
-    let bidder-is : number_at 2 c.args.line.now 1 ≡ some c.in-Is.bidder =
-    number_is 2 1 c.args.line.now c.number_at.result c.in-Is.bidder (omega arith) c.number_at.ensures c.in-Is.is in
-    let null_is : number_at 2 c.args.line.now 3 ≡ some c.in-Is-number_at.null =
-    number_is 2 3 c.args.line.now c.number_at-2.result c.in-Is-number_at.null (omega arith) c.number_at-2.ensures c.in-Is-number_at.is in
+pub returns-in_err-set : goal.returns-in_err-set
+returns-in_err-set c =
     let line = c.args.line.now in
-    no-set line c.if-line-ne13.false c.in-Is.bidder c.in-Is-number_at.null (bidder-is) (null_is)
-    (number-not 8 5 line c.number_at-3.result (omega arith) c.number_at-3.ensures c.in_default-number_at-2.is)
+    let long = c.if-line-ne13.false in
+    let b : ℕ = c.in_ok-bidder.field-0 in
+    let bidder-is : number_at 2 line 1 ≡ Some b = was-read 2 1 line c.number_at.result _ (omega arith) c.number_at.ensures c.in_ok-bidder.was in
+    let x : ℕ = c.in_ok-null.null in
+    let null-is : number_at 2 line 3 ≡ Some x = was-read 2 3 line c.number_at-2.result _ (omega arith) c.number_at-2.ensures c.in_ok-null.was in
+    let none : number_at 8 line 5 ≡ None = was-read 8 5 line c.number_at-3.result _ (omega arith) c.number_at-3.ensures c.in_err-set.was in
+    rw c.from_residual-in_err-set.ensures (no-set line long b x bidder-is null-is none)
 
 pub returns-then-null-gt1 : goal.returns-then-null-gt1
 returns-then-null-gt1 c =
-    let bidder-is : number_at 2 c.args.line.now 1 ≡ some c.in-Is.bidder =
-    number_is 2 1 c.args.line.now c.number_at.result c.in-Is.bidder (omega arith) c.number_at.ensures c.in-Is.is in
-    let null_is : number_at 2 c.args.line.now 3 ≡ some c.in-Is-number_at.null =
-    number_is 2 3 c.args.line.now c.number_at-2.result c.in-Is-number_at.null (omega arith) c.number_at-2.ensures c.in-Is-number_at.is in
-    let set_is : number_at 8 c.args.line.now 5 ≡ some c.in-Is-number_at-2.set =
-    number_is 8 5 c.args.line.now c.number_at-3.result c.in-Is-number_at-2.set (omega arith) c.number_at-3.ensures c.in-Is-number_at-2.is in
     let line = c.args.line.now in
-    other-null line c.if-line-ne13.false c.in-Is.bidder c.in-Is-number_at.null c.in-Is-number_at-2.set (bidder-is) (null_is) (set_is) c.if-null-gt1.true
+    let long = c.if-line-ne13.false in
+    let b : ℕ = c.in_ok-bidder.field-0 in
+    let bidder-is : number_at 2 line 1 ≡ Some b = was-read 2 1 line c.number_at.result _ (omega arith) c.number_at.ensures c.in_ok-bidder.was in
+    let x : ℕ = c.in_ok-null.null in
+    let null-is : number_at 2 line 3 ≡ Some x = was-read 2 3 line c.number_at-2.result _ (omega arith) c.number_at-2.ensures c.in_ok-null.was in
+    let s : ℕ = c.in_ok-set.set in
+    let set_is : number_at 8 line 5 ≡ Some s = was-read 8 5 line c.number_at-3.result _ (omega arith) c.number_at-3.ensures c.in_ok-set.was in
+    other-null line long b x s bidder-is null-is set_is c.if-null-gt1.true
 
 pub returns : goal.returns
 returns c =
-    let bidder-is : number_at 2 c.args.line.now 1 ≡ some c.in-Is.bidder =
-    number_is 2 1 c.args.line.now c.number_at.result c.in-Is.bidder (omega arith) c.number_at.ensures c.in-Is.is in
-    let null_is : number_at 2 c.args.line.now 3 ≡ some c.in-Is-number_at.null =
-    number_is 2 3 c.args.line.now c.number_at-2.result c.in-Is-number_at.null (omega arith) c.number_at-2.ensures c.in-Is-number_at.is in
-    let set_is : number_at 8 c.args.line.now 5 ≡ some c.in-Is-number_at-2.set =
-    number_is 8 5 c.args.line.now c.number_at-3.result c.in-Is-number_at-2.set (omega arith) c.number_at-3.ensures c.in-Is-number_at-2.is in
     let line = c.args.line.now in
-    a-report line c.if-line-ne13.false c.in-Is.bidder c.in-Is-number_at.null c.in-Is-number_at-2.set (bidder-is) (null_is) (set_is) c.if-null-gt1.false
+    let long = c.if-line-ne13.false in
+    let b : ℕ = c.in_ok-bidder.field-0 in
+    let bidder-is : number_at 2 line 1 ≡ Some b = was-read 2 1 line c.number_at.result _ (omega arith) c.number_at.ensures c.in_ok-bidder.was in
+    let x : ℕ = c.in_ok-null.null in
+    let null-is : number_at 2 line 3 ≡ Some x = was-read 2 3 line c.number_at-2.result _ (omega arith) c.number_at-2.ensures c.in_ok-null.was in
+    let s : ℕ = c.in_ok-set.set in
+    let set_is : number_at 8 line 5 ≡ Some s = was-read 8 5 line c.number_at-3.result _ (omega arith) c.number_at-3.ensures c.in_ok-set.was in
+    a-report line long b x s bidder-is null-is set_is c.if-null-gt1.false

@@ -1,5 +1,4 @@
 -- `demands::demand_of` meets its contract. The items so far are those of the highest surplus that are bid for. Assumes nothing.
-use Prim.Native.Nat.{◌-◌, ◌≤◌}
 use mathlib.Core.Path.{◌≡◌}
 use lib.ListN.{length}
 use Rattle.sets.specs.Bit.{set_of}
@@ -7,7 +6,4 @@ use Rattle.demands.proofs.Surplus.{demanded_at}
 use Rattle.demands.proofs.demand_of.Given as goal
 
 abbrev pub invariant-loop-i : goal.invariant-loop-i
-invariant-loop-i l = (l.i ≤ length l.line) × (l.items ≡ set_of l.i (demanded_at (length l.line) l.prices l.line))
-
-abbrev pub decreases-loop-i : goal.decreases-loop-i
-decreases-loop-i l = length l.line - l.i
+invariant-loop-i l = l.items ≡ set_of l.i (demanded_at (length l.line) l.prices l.line)

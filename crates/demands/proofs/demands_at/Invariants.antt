@@ -1,11 +1,7 @@
 -- `demands::demands_at` meets its contract. Each turn collects one bidder's demand. Assumes nothing.
-use Prim.Native.Nat.{◌-◌}
 use lib.ListN.{length}
 use Rattle.demands.proofs.Demanding.{Complete, Collected}
 use Rattle.demands.proofs.demands_at.Given as goal
 
 abbrev pub invariant-loop-b : goal.invariant-loop-b
 invariant-loop-b l = Complete l.items l.bidders (length l.bids) × Collected l.items l.bidders l.prices l.bids l.sets l.nulls l.surpluses l.b
-
-abbrev pub decreases-loop-b : goal.decreases-loop-b
-decreases-loop-b l = l.bidders - l.b

@@ -1,49 +1,40 @@
 -- `dewgneiss::lend` meets its contract. Assumes nothing.
-use mathlib.Core.Path.{sym, ap, ◌∙◌}
+use mathlib.Core.Path.{◌∙◌}
 use native.Mathlib.Omega.{arith}
-use Prim.Native.Nat.{ℕ}
-use Rattle.sets.specs.Lists.{places}
-use Rattle.dewgneiss.specs.Lent.{with_lengths}
-use Rattle.dewgneiss.proofs.Accepted.{no_number, accepted}
-use Rattle.dewgneiss.proofs.Results.{kept}
+use borrow.Author.Rules.{rules}
+use Rattle.dewgneiss.proofs.Accepted.{lendable}
+use Rattle.dewgneiss.proofs.Copying.{as-long, take-places}
 use Rattle.dewgneiss.proofs.lend.Goals as goal
 
-pub returns-then-why-ne0 : goal.returns-then-why-ne0
-returns-then-why-ne0 c =
-    let a = c.args in
-    let w = c.with_lengths-why in
-    record {
-      number = w.ensures ∙ ap (with_lengths a.c.refusal) c.unfit.ensures;
-      rounds = kept w.result _ a.rounds.now c.if-why-ne0.true;
-      prices = kept w.result _ a.prices.now c.if-why-ne0.true;
-      options = kept w.result _ a.options.now c.if-why-ne0.true;
-      gains = kept w.result _ a.gains.now c.if-why-ne0.true;
-    }
+pub copy_from_slice-requires : goal.copy_from_slice-requires
+copy_from_slice-requires c = (lendable c.with_lengths-why.ensures c.unfit.ensures (omega arith)).1.two
 
-pub put_closing-requires : goal.put_closing-requires
-put_closing-requires c =
-    let a = c.args in
-    let z = no_number a.c.refusal c.unfit.result (sym c.with_lengths-why.ensures ∙ c.if-why-ne0.false) in
-    let h = accepted a.items a.bidders a.rounds.now a.prices.now a.options.now a.gains.now (sym c.unfit.ensures ∙ z.1) in
-    let k = c.requires z.0 in
-    let i = k.0 in
-    let b = k.1 in
-    let p = h.as_items in
-    let o = h.as-bidders in
-    let g = h.gain-each in
-    (h.two, omega arith, omega arith, omega arith)
+pub copy_from_slice-requires-2 : goal.copy_from_slice-requires-2
+copy_from_slice-requires-2 c =
+    let z = lendable c.with_lengths-why.ensures c.unfit.ensures (omega arith) in
+    as-long c.args.items 32 c.args.c.prices (c.requires z.0).0 (search rules) c.args.prices.now z.1.as_items
 
-pub returns : goal.returns
-returns c =
-    let a = c.args in
-    let w = c.with_lengths-why in
-    let z = no_number a.c.refusal c.unfit.result (sym w.ensures ∙ c.if-why-ne0.false) in
-    let h = accepted a.items a.bidders a.rounds.now a.prices.now a.options.now a.gains.now (sym c.unfit.ensures ∙ z.1) in
-    let put = c.put_closing.ensures in
-    record {
-      number = sym c.if-why-ne0.false ∙ w.ensures ∙ ap (with_lengths a.c.refusal) c.unfit.ensures;
-      rounds = put.0;
-      prices = put.1 ∙ ap (λ (k : ℕ). places k a.c.prices) h.as_items;
-      options = put.2 ∙ ap (λ (k : ℕ). places k a.c.assignment) h.as-bidders;
-      gains = put.3 ∙ ap (λ (k : ℕ). places k a.c.gains) h.gain-each;
-    }
+pub copy_from_slice-requires-3 : goal.copy_from_slice-requires-3
+copy_from_slice-requires-3 c =
+    let z = lendable c.with_lengths-why.ensures c.unfit.ensures (omega arith) in
+    as-long c.args.bidders 64 c.args.c.assignment (c.requires z.0).1 (search rules) c.args.options.now z.1.as-bidders
+
+pub copy_from_slice-requires-4 : goal.copy_from_slice-requires-4
+copy_from_slice-requires-4 c =
+    let z = lendable c.with_lengths-why.ensures c.unfit.ensures (omega arith) in
+    as-long c.args.bidders 64 c.args.c.gains (c.requires z.0).1 (search rules) c.args.gains.now z.1.gain-each
+
+pub returns-clause-prices : goal.returns-clause-prices
+returns-clause-prices c =
+    let z = lendable c.with_lengths-why.ensures c.unfit.ensures (omega arith) in
+    c.copy_from_slice-2.ensures.after ∙ take-places c.args.items 32 c.args.c.prices (c.requires z.0).0 (search rules)
+
+pub returns-clause-options : goal.returns-clause-options
+returns-clause-options c =
+    let z = lendable c.with_lengths-why.ensures c.unfit.ensures (omega arith) in
+    c.copy_from_slice-3.ensures.after ∙ take-places c.args.bidders 64 c.args.c.assignment (c.requires z.0).1 (search rules)
+
+pub returns-clause-gains : goal.returns-clause-gains
+returns-clause-gains c =
+    let z = lendable c.with_lengths-why.ensures c.unfit.ensures (omega arith) in
+    c.copy_from_slice-4.ensures.after ∙ take-places c.args.bidders 64 c.args.c.gains (c.requires z.0).1 (search rules)

@@ -1,5 +1,5 @@
 -- `differences::explained_row` meets its contract. Assumes nothing.
-use Prim.Native.Nat.{ℕ, ◌-◌, min}
+use Prim.Native.Nat.{ℕ, min}
 use mathlib.Core.Bool.{Bool}
 use mathlib.Core.List.{List}
 use lib.ListN.{get_or}
@@ -16,7 +16,4 @@ abbrev pub limited : List ℕ → Bool → ℕ → ℕ → ℕ → List ℤ → 
 limited prices null set l i own j = min (up (get_or own j (pos 0))) (limit null (has set) (amount prices) l i j)
 
 abbrev pub invariant-loop-j : goal.invariant-loop-j
-invariant-loop-j l = RowFilling l.n l.own (limited l.prices l.null l.set l.l l.i l.own) l.r l.j
-
-abbrev pub decreases-loop-j : goal.decreases-loop-j
-decreases-loop-j l = l.n - l.j
+invariant-loop-j l = RowFilling l.n l.own (limited l.report.prices.now l.report.null l.report.set l.l l.i l.own) l.r l.j

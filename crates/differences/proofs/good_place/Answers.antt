@@ -9,6 +9,6 @@ pub returns-then-own : goal.returns-then-own
 unfolding good_place
 returns-then-own c = let a = c.args in from_null a.x c.requires ∙ sym (ap (λ (b : Bool). good_place b (up a.x)) c.if-own.true)
 
-pub returns : goal.returns
+pub returns-else-own : goal.returns-else-own
 unfolding good_place
-returns c = let a = c.args in from_lowest a.x c.requires ∙ sym (ap (λ (b : Bool). good_place b (up a.x)) c.if-own.false)
+returns-else-own c = let a = c.args in from_lowest a.x c.requires ∙ sym (ap (λ (b : Bool). good_place b (up a.x)) c.if-own.false)

@@ -7,6 +7,6 @@ pub returns-then-items-i : goal.returns-then-items-i
 unfolding is_beyond
 returns-then-items-i c = let a = c.args in let e = lt-ltb a.items a.i c.if-items-i.true in simp e
 
-pub returns : goal.returns
+pub returns-else-items-i : goal.returns-else-items-i
 unfolding is_beyond
-returns c = let a = c.args in let e = le-ltb a.items a.i c.if-items-i.false in simp e
+returns-else-items-i c = let a = c.args in let e = le-ltb a.items a.i c.if-items-i.false in simp e

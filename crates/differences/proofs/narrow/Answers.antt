@@ -1,81 +1,40 @@
 -- `differences::narrow` meets its contract. Assumes nothing.
-use Prim.Native.Nat.{◌≤◌}
-use mathlib.Core.Path.{◌≡◌, sym, ◌∙◌}
-use mathlib.Core.Bool.{true, false, ◌&&◌}
-use native.Mathlib.Omega.{arith}
-use lib.ListN.{length}
-use borrow.Author.Rules.{rules}
+use mathlib.Core.Path.{◌≡◌, sym, ap, ◌∙◌}
 use Rattle.sets.proofs.Tests.{and_right}
 use Rattle.reports.specs.Report.{saying}
+use Rattle.differences.specs.Shifted.{shifted, good_table}
 use Rattle.differences.specs.Lent.{is_asked, places_fit, part_explains}
 use Rattle.differences.proofs.Deciding.{places-use, explains-not, explains-test, unchanged, narrowed_is}
 use Rattle.differences.proofs.narrow.Goals as goal
 
-pub returns-then-not-admits : goal.returns-then-not-admits
-returns-then-not-admits c =
+pub returns-in_default : goal.returns-in_default
+returns-in_default c =
     let a = c.args in
-    let q : is_asked a.items a.prices.now (saying a.null a.set) && places_fit a.items a.part.now ≡ false = sym c.admits.ensures ∙ c.if-not-admits.true in
-    let e = explains-not a.items a.part.now a.prices.now a.null a.set q in
+    let e = explains-not a.items a.part.now a.prices.now a.null a.set c.in_default.ensures in
     (sym e, sym (unchanged a.items a.part.now a.prices.now a.null a.set e))
-
-pub allowed-c-requires : goal.allowed-c-requires
-allowed-c-requires c =
-    let fitted : is_asked c.args.items c.args.prices.now (saying c.args.null c.args.set) && places_fit c.args.items c.args.part.now ≡ true =
-    sym c.admits.ensures ∙ c.if-not-admits.false in
-    fitted
-
-pub overflow_add-items : goal.overflow_add-items
-overflow_add-items c =
-    let fitted : is_asked c.args.items c.args.prices.now (saying c.args.null c.args.set) && places_fit c.args.items c.args.part.now ≡ true =
-    sym c.admits.ensures ∙ c.if-not-admits.false in
-    let sized : (length c.args.part.now ≡ 1089) × (c.args.items ≤ 32) =
-    let a = c.args in
-    let u = places-use a.items a.part.now (and_right (is_asked a.items a.prices.now (saying a.null a.set)) (places_fit a.items a.part.now) fitted) in
-    (u.0, u.1) in
-    let few = sized.1 in search rules
-
-pub good-requires : goal.good-requires
-good-requires c =
-    let fitted : is_asked c.args.items c.args.prices.now (saying c.args.null c.args.set) && places_fit c.args.items c.args.part.now ≡ true =
-    sym c.admits.ensures ∙ c.if-not-admits.false in
-    let sized : (length c.args.part.now ≡ 1089) × (c.args.items ≤ 32) =
-    let a = c.args in
-    let u = places-use a.items a.part.now (and_right (is_asked a.items a.prices.now (saying a.null a.set)) (places_fit a.items a.part.now) fitted) in
-    (u.0, u.1) in
-    let few = sized.1 in (omega arith, c.allowed-c.ensures.small)
 
 pub returns-then-not-good : goal.returns-then-not-good
 returns-then-not-good c =
-    let fitted : is_asked c.args.items c.args.prices.now (saying c.args.null c.args.set) && places_fit c.args.items c.args.part.now ≡ true =
-    sym c.admits.ensures ∙ c.if-not-admits.false in
-    let told : c.good.result ≡ part_explains c.args.items c.args.part.now c.args.prices.now (saying c.args.null c.args.set) =
     let a = c.args in
-    c.good.ensures ∙ explains-test a.items a.part.now a.prices.now a.null a.set c.ranges.set.fits fitted c.allowed-c.result c.allowed-c.ensures in
-    let a = c.args in
+    let t = c.in-Some.table in
+    let s = c.in-Some.ensures in
+    let told : c.good.result ≡ part_explains a.items a.part.now a.prices.now (saying a.null a.set) =
+    c.good.ensures ∙ ap (good_table (shifted t.rows)) s.2 ∙ explains-test a.items a.part.now a.prices.now a.null a.set c.ranges.set.fits s.0 t.rows s.1 in
     let e = sym told ∙ c.if-not-good.true in
     (sym e, sym (unchanged a.items a.part.now a.prices.now a.null a.set e))
 
 pub put-requires : goal.put-requires
 put-requires c =
-    let fitted : is_asked c.args.items c.args.prices.now (saying c.args.null c.args.set) && places_fit c.args.items c.args.part.now ≡ true =
-    sym c.admits.ensures ∙ c.if-not-admits.false in
-    let sized : (length c.args.part.now ≡ 1089) × (c.args.items ≤ 32) =
     let a = c.args in
-    let u = places-use a.items a.part.now (and_right (is_asked a.items a.prices.now (saying a.null a.set)) (places_fit a.items a.part.now) fitted) in
-    (u.0, u.1) in
-    sized.0
+    (places-use a.items a.part.now (and_right (is_asked a.items a.prices.now (saying a.null a.set)) (places_fit a.items a.part.now) c.in-Some.ensures.0)).0
 
 pub returns : goal.returns
 returns c =
-    let fitted : is_asked c.args.items c.args.prices.now (saying c.args.null c.args.set) && places_fit c.args.items c.args.part.now ≡ true =
-    sym c.admits.ensures ∙ c.if-not-admits.false in
     let a = c.args in
-    let told : c.good.result ≡ part_explains c.args.items c.args.part.now c.args.prices.now (saying c.args.null c.args.set) =
-    let a = c.args in
-    c.good.ensures ∙ explains-test a.items a.part.now a.prices.now a.null a.set c.ranges.set.fits fitted c.allowed-c.result c.allowed-c.ensures in
+    let t = c.in-Some.table in
+    let s = c.in-Some.ensures in
+    let told : c.good.result ≡ part_explains a.items a.part.now a.prices.now (saying a.null a.set) =
+    c.good.ensures ∙ ap (good_table (shifted t.rows)) s.2 ∙ explains-test a.items a.part.now a.prices.now a.null a.set c.ranges.set.fits s.0 t.rows s.1 in
     let e = sym told ∙ c.if-not-good.false in
-    let put = c.put.ensures in (
-      sym e,
-      narrowed_is a.items a.part.now a.prices.now a.null a.set c.ranges.set.fits fitted c.allowed-c.result c.allowed-c.ensures e
-          c.put.new.part put.0 put.1,
-    )
+    let put = c.put.ensures in
+    (sym e, narrowed_is a.items a.part.now a.prices.now a.null a.set c.ranges.set.fits s.0 t.rows s.1 e c.put.new.part put.0 put.1)

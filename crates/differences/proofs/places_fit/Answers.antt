@@ -5,7 +5,7 @@ use mathlib.Core.Bool.{true}
 use native.Mathlib.Omega.{arith}
 use lib.ListN.{get_or}
 use lib.IntN.{pos}
-use borrow.Author.Count.{below_none, below_more}
+use borrow.Author.Count.{below_more}
 use borrow.Author.Rules.{rules}
 use Rattle.differences.specs.Table.{place_fits}
 use Rattle.differences.specs.Lent.{is_part}
@@ -17,16 +17,6 @@ use Rattle.differences.proofs.places_fit.Goals as goal
 pub returns-then-not-is_part : goal.returns-then-not-is_part
 returns-then-not-is_part c = let a = c.args in sym (places-none a.items a.part.now (sym c.is_part.ensures ∙ c.if-not-is_part.true))
 
-pub loop-k-init : goal.loop-k-init
-loop-k-init c = (omega arith, below_none _)
-
-pub bounds-part-k : goal.bounds-part-k
-bounds-part-k c =
-    let fitted : is_part c.args.items c.args.part.now ≡ true = sym c.is_part.ensures ∙ c.if-not-is_part.false in
-    let a = c.args in
-    let long = (part-use a.items a.part.now fitted).0 in
-    search rules
-
 pub returns-then-not-place_fits : goal.returns-then-not-place_fits
 returns-then-not-place_fits c =
     let fitted : is_part c.args.items c.args.part.now ≡ true = sym c.is_part.ensures ∙ c.if-not-is_part.false in
@@ -36,7 +26,8 @@ returns-then-not-place_fits c =
     let e : read (get_or a.part.now k (pos 0)) ≡ get_or a.part.now k (pos 0) = search rules in
     sym (c.place_fits.ensures ∙ ap (place_fits a.items (k / 33) (k % 33)) e) in
     let a = c.args in
-    sym (place-not a.items a.part.now fitted c.loop-k.k c.loop-k-test.true (here ∙ c.if-not-place_fits.true))
+    let long = (part-use a.items a.part.now fitted).0 in
+    sym (place-not a.items a.part.now fitted c.loop-k.k (omega arith) (here ∙ c.if-not-place_fits.true))
 
 pub loop-k-preserved : goal.loop-k-preserved
 loop-k-preserved c =
@@ -46,11 +37,11 @@ loop-k-preserved c =
     let e : read (get_or a.part.now k (pos 0)) ≡ get_or a.part.now k (pos 0) = search rules in
     sym (c.place_fits.ensures ∙ ap (place_fits a.items (k / 33) (k % 33)) e) in
     let at = c.loop-k in
-    let l = c.loop-k-test.true in
-    (omega arith, below_more _ at.k at.invariant.1 (here ∙ c.if-not-place_fits.false))
+    below_more _ at.k at.invariant (here ∙ c.if-not-place_fits.false)
 
 pub returns : goal.returns
 returns c =
     let fitted : is_part c.args.items c.args.part.now ≡ true = sym c.is_part.ensures ∙ c.if-not-is_part.false in
     let a = c.args in
-    sym (places-all a.items a.part.now fitted (λ k l. c.loop-k.invariant.1 k (omega (arith, l, c.loop-k-test.false))))
+    let long = (part-use a.items a.part.now fitted).0 in
+    sym (places-all a.items a.part.now fitted (λ k l. c.loop-k.invariant k (omega arith)))

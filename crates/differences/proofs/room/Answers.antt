@@ -6,8 +6,8 @@ use Rattle.differences.proofs.Signs.{bothback, sum-sfits}
 use Rattle.differences.proofs.Quick.{read_fits, read-room}
 use Rattle.differences.proofs.room.Goals as goal
 
-pub overflow_add-s : goal.overflow_add-s
-overflow_add-s c =
+pub overflow_add-result : goal.overflow_add-result
+overflow_add-result c =
     let a = c.args in
     let p = c.requires in
     subst (SFits w16) (sym (bothback a.y a.z p.1 p.2)) (sum-sfits a.y a.z p.1 p.2)

@@ -1,5 +1,5 @@
 -- `differences::row` meets its contract. Assumes nothing.
-use Prim.Native.Nat.{ℕ, ◌-◌}
+use Prim.Native.Nat.{ℕ}
 use mathlib.Core.List.{List}
 use lib.ListN.{get_or}
 use lib.IntN.{ℤ, pos}
@@ -13,6 +13,3 @@ by_way own by first j = via (up (get_or own j (pos 0))) (up first) (up (get_or b
 
 abbrev pub invariant-loop-j : goal.invariant-loop-j
 invariant-loop-j l = RowFilling l.n l.own (by_way l.own l.by l.first) l.r l.j
-
-abbrev pub decreases-loop-j : goal.decreases-loop-j
-decreases-loop-j l = l.n - l.j

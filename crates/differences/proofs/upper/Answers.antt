@@ -1,39 +1,36 @@
 -- `differences::upper` meets its contract. Assumes nothing.
-use mathlib.Core.Path.{◌≡◌, sym, ◌∙◌}
+use mathlib.Core.Path.{◌∙◌}
 use native.Mathlib.Omega.{arith}
 use Rattle.differences.specs.Constraint.{upper}
 use Rattle.differences.proofs.Signs.{passed}
-use Rattle.differences.proofs.Constraints.{zero_is, upper_is}
+use Rattle.differences.proofs.Constraints.{upper_is}
 use Rattle.differences.proofs.upper.Goals as goal
 
-pub returns-then-null : goal.returns-then-null
+pub returns-in-true-true : goal.returns-in-true-true
 unfolding upper
-returns-then-null c =
+returns-in-true-true c =
     let a = c.args in
-    passed c.less.result _ _ c.less.ensures (omega arith ∙ upper_is a.p a.q c.if-null.true c.if-inside.true)
+    let at = c.in-true-true in
+    passed c.less.result _ _ c.less.ensures (omega arith ∙ upper_is a.p a.q at.is-0 at.is-1)
 
-pub returns-then-inside : goal.returns-then-inside
+pub returns-in-true-false : goal.returns-in-true-false
 unfolding upper
-returns-then-inside c =
+returns-in-true-false c =
     let a = c.args in
-    passed c.less-then-inside.result _ _ c.less-then-inside.ensures (upper_is a.p a.q c.if-null.false c.if-inside.true)
+    let at = c.in-true-false in
+    let m = c.max.ensures in
+    passed c.less-in-true-false.result _ _ c.less-in-true-false.ensures (omega arith ∙ upper_is a.p a.q at.is-0 at.is-1)
 
-pub returns-then-not-null : goal.returns-then-not-null
+pub returns-in-false-true : goal.returns-in-false-true
 unfolding upper
-returns-then-not-null c =
+returns-in-false-true c =
     let a = c.args in
-    passed c.less-then-not-null.result _ _ c.less-then-not-null.ensures (omega arith ∙ upper_is a.p a.q c.if-not-null.true c.if-inside.false)
+    let at = c.in-false-true in
+    passed c.less-in-false-true.result _ _ c.less-in-false-true.ensures (upper_is a.p a.q at.is-0 at.is-1)
 
-pub returns-then-p-eq0 : goal.returns-then-p-eq0
+pub returns-in-false-false : goal.returns-in-false-false
 unfolding upper
-returns-then-p-eq0 c =
+returns-in-false-false c =
     let a = c.args in
-    let z : a.p ≡ 0 = c.if-p-eq0.true in
-    zero_is (sym (omega arith ∙ upper_is a.p a.q c.if-not-null.false c.if-inside.false))
-
-pub returns : goal.returns
-unfolding upper
-returns c =
-    let a = c.args in
-    let z = c.if-p-eq0.false in
-    passed c.less-2.result _ _ c.less-2.ensures (omega arith ∙ upper_is a.p a.q c.if-not-null.false c.if-inside.false)
+    let at = c.in-false-false in
+    passed c.less-in-false-false.result _ _ c.less-in-false-false.ensures (omega arith ∙ upper_is a.p a.q at.is-0 at.is-1)

@@ -1,7 +1,7 @@
 -- `digits::digit_value` meets its contract: each case is a row of the table, and its rest is past all of them. Assumes nothing.
 use Prim.Native.Nat.{ℕ, ◌<◌}
 use mathlib.Core.Path.{◌≡◌, refl, sym, ap, ◌∙◌}
-use mathlib.Core.Option.{Option, none, some, get_or}
+use Rattle.std.specs.Prelude.{Option, None, Some, unwrap_or}
 use native.Mathlib.Omega.{arith}
 use borrow.Author.Rules.{rules}
 use Rattle.digits.specs.Reading.{digit_value}
@@ -11,12 +11,12 @@ use Rattle.digits.proofs.Table.{digit-table, Rest, in-no-row}
 use Rattle.digits.proofs.digit_value.Goals as goal
 
 -- what the table gives, or 16, is also what the rule gives
-given : (b : ℕ) (o : Option ℕ) → b < 256 → by_table b ≡ o → (get_or o 16 ≡ get_or (digit_value b) 16) × (get_or o 16 ≡ get_or (by_table b) 16)
+given : (b : ℕ) (o : Option ℕ) → b < 256 → by_table b ≡ o → (unwrap_or o 16 ≡ unwrap_or (digit_value b) 16) × (unwrap_or o 16 ≡ unwrap_or (by_table b) 16)
 given b o l e = (or-sixteen (sym (digit-table b l) ∙ e), or-sixteen e)
 
 -- a case: a byte w, which the table says is worth d
-case : (b w d : ℕ) → b < 256 → b ≡ w → by_table w ≡ some d → (d ≡ get_or (digit_value b) 16) × (d ≡ get_or (by_table b) 16)
-case b w d l e v = given b (some d) l (ap by_table e ∙ v)
+case : (b w d : ℕ) → b < 256 → b ≡ w → by_table w ≡ Some d → (d ≡ unwrap_or (digit_value b) 16) × (d ≡ unwrap_or (by_table b) 16)
+case b w d l e v = given b (Some d) l (ap by_table e ∙ v)
 
 pub returns-in-48 : goal.returns-in-48
 unfolding by_table beside
@@ -86,5 +86,5 @@ pub returns-in_default : goal.returns-in_default
 unfolding by_table
 returns-in_default c =
     let rest : Rest c.args.byte (Unit {0}) digit_table = search rules in
-    let k = given c.args.byte none (omega arith) (in-no-row c.args.byte (Unit {0}) digit_table rest).1 in
+    let k = given c.args.byte None (omega arith) (in-no-row c.args.byte (Unit {0}) digit_table rest).1 in
     record { rule = k.0; table = k.1 }

@@ -2,24 +2,23 @@
 use Prim.Native.Nat.{ℕ, ◌+◌}
 use mathlib.Core.Path.{◌≡◌, sym, ap, ◌∙◌}
 use native.Mathlib.Omega.{arith}
-use Rattle.digits.specs.Reading.{number_at, as_number}
+use Rattle.digits.specs.Reading.{number_at}
 use Rattle.digits.proofs.Walking.{is_digit, no_digit, number-none, number_more, number-stops, many-digits, few-digits, one-more-digit, within-digits}
 use Rattle.digits.proofs.number_at.Goals as goal
 
 pub returns-then-digits-gt8 : goal.returns-then-digits-gt8
-returns-then-digits-gt8 c = sym (ap as_number (many-digits c.args.s.now c.args.at c.args.digits c.if-digits-gt8.true))
+returns-then-digits-gt8 c = sym (many-digits c.args.s.now c.args.at c.args.digits c.if-digits-gt8.true)
 
 pub loop-k-init : goal.loop-k-init
-loop-k-init c = (number-none c.args.s.now c.args.at, omega arith, omega arith, omega arith)
+loop-k-init c = (number-none c.args.s.now c.args.at, omega arith)
 
 pub returns-then-d-gt15 : goal.returns-then-d-gt15
 returns-then-d-gt15 c =
     let a = c.args in
     let l = c.loop-k in
     sym
-    (ap as_number
-    (few-digits a.s.now a.at a.digits l.invariant.3
-    ∙ number-stops a.s.now a.at a.digits l.k c.loop-k-test.true (no_digit a.s.now (a.at + l.k) c.digit_at-d.result c.digit_at-d.ensures (omega arith))))
+    (few-digits a.s.now a.at a.digits (omega arith)
+    ∙ number-stops a.s.now a.at a.digits l.k (omega arith) (no_digit a.s.now (a.at + l.k) c.digit_at-d.result c.digit_at-d.ensures (omega arith)))
 
 pub overflow_mul-x : goal.overflow_mul-x
 overflow_mul-x c = let l = c.loop-k in omega (arith, within-digits l.k 7 l.x (omega arith) l.invariant.1)
@@ -31,11 +30,9 @@ pub loop-k-preserved : goal.loop-k-preserved
 loop-k-preserved c =
     let a = c.args in
     let l = c.loop-k in
-    let d = c.digit_at-d in (
-      number_more a.s.now a.at l.k l.x d.result l.invariant.0 (is_digit _ d.result d.ensures (omega arith)),
-      one-more-digit l.k l.x d.result l.invariant.1 (omega arith),
-      omega arith,
-      l.invariant.3,
+    let d : ℕ = c.from.result in (
+      number_more a.s.now a.at l.k l.x d l.invariant.0 (is_digit _ d (c.from.ensures ∙ c.digit_at-d.ensures) (omega arith)),
+      one-more-digit l.k l.x d l.invariant.1 (omega arith),
     )
 
 pub returns : goal.returns
@@ -43,4 +40,4 @@ returns c =
     let a = c.args in
     let l = c.loop-k in
     let e : l.k ≡ a.digits = omega arith in
-    sym (ap as_number (few-digits a.s.now a.at a.digits l.invariant.3 ∙ ap (λ (k : ℕ). number_at k a.s.now a.at) (sym e) ∙ l.invariant.0))
+    sym (few-digits a.s.now a.at a.digits (omega arith) ∙ ap (λ (k : ℕ). number_at k a.s.now a.at) (sym e) ∙ l.invariant.0)

@@ -4,7 +4,7 @@ use mathlib.Core.Path.{◌≡◌, refl, sym, ap, ◌∙◌}
 use mathlib.Core.List.{List, [], ◌∷◌, ◌++◌}
 use native.Mathlib.Omega.{arith}
 use native.Mathlib.Nat.{add-zero, lt_irrefl}
-use lib.ListN.{length, set, length-set}
+use lib.ListN.{length, set}
 use lib.Seq.{sets, set_comm}
 use Rattle.digits.specs.Digits.{digit, hex}
 use Rattle.digits.proofs.Digits.{hex-length}
@@ -39,15 +39,12 @@ done l at (suc k) x h = absurd (lt_irrefl 0 (omega arith))
 pub loop-k-preserved : goal.loop-k-preserved
 loop-k-preserved c =
     let l = c.loop-k in
-    let at : ℕ = c.args.at in (
-      ap (λ (b : ℕ). sets (set l.out (at + (l.k - 1)) b) at (hex (l.k - 1) (l.rest / 16))) c.digit.ensures
-          ∙ step l.out at l.k l.rest c.loop-k-test.true
-          ∙ l.invariant.0,
-      simp length-set l.invariant.1,
-      omega arith,
-    )
+    let at : ℕ = c.args.at in
+    ap (λ (b : ℕ). sets (set l.out (at + (l.k - 1)) b) at (hex (l.k - 1) (l.rest / 16))) c.digit.ensures
+    ∙ step l.out at l.k l.rest c.loop-k-test.true
+    ∙ l.invariant
 
 pub returns : goal.returns
 returns c =
     let l = c.loop-k in
-    sym (done l.out c.args.at l.k l.rest c.loop-k-test.false) ∙ l.invariant.0
+    sym (done l.out c.args.at l.k l.rest c.loop-k-test.false) ∙ l.invariant

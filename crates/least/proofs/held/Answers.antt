@@ -1,13 +1,16 @@
--- `least::held` meets its contract: each turn fills one place. Assumes nothing.
-use native.Mathlib.Omega.{arith}
-use Rattle.least.proofs.Numbering.{left-none, left-more, left_end}
+-- `least::held` meets its contract: each place is filled by a call. Assumes nothing.
+use Prim.Native.Nat.{◌+◌}
+use mathlib.Core.Path.{refl}
+use mathlib.Core.Bool.{cond}
+use lib.Dec.{eqb}
+use lib.ListN.{get_or}
+use Rattle.std.proofs.Common.{rules}
+use Rattle.sets.proofs.FromFn.{from_fn-tabulate}
+use Rattle.least.proofs.Numbering.{all-left}
 use Rattle.least.proofs.held.Goals as goal
 
-pub loop-x-init : goal.loop-x-init
-loop-x-init c = (omega arith, left-none (λ x. 0) c.args.own.now)
-
-pub loop-x-preserved : goal.loop-x-preserved
-loop-x-preserved c = (omega (arith, c.loop-x-test.true), left-more (λ x. 0) c.args.own.now c.loop-x.x c.loop-x.left c.loop-x-test.true c.loop-x.invariant.1 c.if_same.result c.if_same.ensures)
-
 pub returns : goal.returns
-returns c = left_end (λ x. 0) c.args.own.now c.loop-x.x c.loop-x.left c.loop-x-test.false c.loop-x.invariant.1
+returns c =
+    let own = c.args.own.now in
+    all-left (λ x. 0) own (λ x. 0) (λ x. refl) c.from_fn.result
+    (from_fn-tabulate _ _ 64 (λ x. cond (eqb (get_or own x 0) 0) (0) (x + 1)) (λ q i y l k. search rules) _ c.from_fn.ensures.items)

@@ -1,14 +1,16 @@
--- `least::numbers` meets its contract: each turn fills one place. Assumes nothing.
+-- `least::numbers` meets its contract: each place is filled by a call. Assumes nothing.
 use Prim.Native.Nat.{suc, ◌+◌}
+use mathlib.Core.Bool.{cond}
 use native.Mathlib.Omega.{arith}
-use Rattle.least.proofs.Numbering.{left-none, left-more, left_end}
+use lib.Dec.{eqb}
+use lib.ListN.{get_or}
+use Rattle.std.proofs.Common.{rules}
+use Rattle.sets.proofs.FromFn.{from_fn-tabulate}
+use Rattle.least.proofs.Numbering.{all-left}
 use Rattle.least.proofs.numbers.Goals as goal
 
-pub loop-x-init : goal.loop-x-init
-loop-x-init c = (omega arith, left-none (λ x. suc x + 64) c.args.own.now)
-
-pub loop-x-preserved : goal.loop-x-preserved
-loop-x-preserved c = (omega (arith, c.loop-x-test.true), left-more (λ x. suc x + 64) c.args.own.now c.loop-x.x c.loop-x.left c.loop-x-test.true c.loop-x.invariant.1 c.if_same.result ((λ e. omega (arith, c.if_same.ensures.0 e)), c.if_same.ensures.1))
-
 pub returns : goal.returns
-returns c = left_end (λ x. suc x + 64) c.args.own.now c.loop-x.x c.loop-x.left c.loop-x-test.false c.loop-x.invariant.1
+returns c =
+    let own = c.args.own.now in
+    all-left (λ x. suc x + 64) own (λ x. x + 65) (λ x. omega arith) c.from_fn.result
+    (from_fn-tabulate _ _ 64 (λ x. cond (eqb (get_or own x 0) 0) (x + 65) (x + 1)) (λ q i y l k. search rules) _ c.from_fn.ensures.items)

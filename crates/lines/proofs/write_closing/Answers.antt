@@ -2,11 +2,10 @@
 use Prim.Native.Nat.{ℕ}
 use mathlib.Core.Path.{◌≡◌, sym}
 use mathlib.Core.Bool.{Bool, true, false}
-use native.Mathlib.Omega.{arith}
 use lib.ListN.{length}
 use Rattle.lines.specs.Lines.{closing_sheet, closing_length, bytes_of, writes}
 use Rattle.lines.proofs.Lengths.{closing-length}
-use Rattle.lines.proofs.Written.{Written, asked, is-written, afterwards, three-lines}
+use Rattle.lines.proofs.Written.{asked, afterwards, three-lines}
 use Rattle.lines.proofs.write_closing.Goals as goal
 
 pub returns-then-not-writes : goal.returns-then-not-writes
@@ -19,31 +18,10 @@ returns-then-not-writes c =
           (closing-length a.items a.bidders a.raised a.lowered a.prices.now a.options.now) a.out.now false no,
     )
 
--- it is written, so there is room for it
+-- it is written
 module _ (m n space given : ℕ) (t : Bool) (e : given ≡ bytes_of m n (closing_length m n)) (w : t ≡ writes m n given space) (is : t ≡ true) where
   yes : writes m n (closing_length m n) space ≡ true
   yes = asked m n (closing_length m n) space given t true e w is
-
-  room : Written m n (closing_length m n) space
-  room = is-written _ _ _ _ yes
-
-pub put_rounds-requires : goal.put_rounds-requires
-unfolding closing_length
-put_rounds-requires c = omega (arith, (room _ _ _ _ _ c.closing_length.ensures c.writes.ensures c.if-not-writes.false).fits)
-
-pub put_amounts-requires : goal.put_amounts-requires
-unfolding closing_length
-put_amounts-requires c = let r = room _ _ _ _ _ c.closing_length.ensures c.writes.ensures c.if-not-writes.false in let m = r.counts.max_items in (omega arith, omega (arith, r.fits))
-
-pub overflow_mul-items : goal.overflow_mul-items
-overflow_mul-items c = omega (arith, (room _ _ _ _ _ c.closing_length.ensures c.writes.ensures c.if-not-writes.false).counts.max_items)
-
-pub overflow_add-items : goal.overflow_add-items
-overflow_add-items c = omega (arith, (room _ _ _ _ _ c.closing_length.ensures c.writes.ensures c.if-not-writes.false).counts.max_items)
-
-pub put_options-requires : goal.put_options-requires
-unfolding closing_length
-put_options-requires c = let r = room _ _ _ _ _ c.closing_length.ensures c.writes.ensures c.if-not-writes.false in (r.counts.max_bidders, omega (arith, r.fits))
 
 pub returns : goal.returns
 returns c =

@@ -2,11 +2,10 @@
 use Prim.Native.Nat.{ℕ}
 use mathlib.Core.Path.{◌≡◌, sym}
 use mathlib.Core.Bool.{Bool, true, false}
-use native.Mathlib.Omega.{arith}
 use lib.ListN.{length}
 use Rattle.lines.specs.Lines.{sealed_sheet, sealed_length, bytes_of, writes}
 use Rattle.lines.proofs.Lengths.{sealed-length}
-use Rattle.lines.proofs.Written.{Written, asked, is-written, afterwards, four-lines}
+use Rattle.lines.proofs.Written.{asked, afterwards, four-lines}
 use Rattle.lines.proofs.write_sealed.Goals as goal
 
 pub returns-then-not-writes : goal.returns-then-not-writes
@@ -19,29 +18,10 @@ returns-then-not-writes c =
           (sealed-length a.items a.bidders a.raised a.lowered a.prices.now a.options.now a.gains.now) a.out.now false no,
     )
 
--- it is written, so there is room for it
+-- it is written
 module _ (m n space given : ℕ) (t : Bool) (e : given ≡ bytes_of m n (sealed_length m n)) (w : t ≡ writes m n given space) (is : t ≡ true) where
   yes : writes m n (sealed_length m n) space ≡ true
   yes = asked m n (sealed_length m n) space given t true e w is
-
-  room : Written m n (sealed_length m n) space
-  room = is-written _ _ _ _ yes
-
-pub overflow_mul-items : goal.overflow_mul-items
-overflow_mul-items c = omega (arith, (room _ _ _ _ _ c.sealed_length.ensures c.writes.ensures c.if-not-writes.false).counts.max_items)
-
-pub overflow_add-items : goal.overflow_add-items
-overflow_add-items c = omega (arith, (room _ _ _ _ _ c.sealed_length.ensures c.writes.ensures c.if-not-writes.false).counts.max_items)
-
-pub overflow_mul-bidders : goal.overflow_mul-bidders
-overflow_mul-bidders c = omega (arith, (room _ _ _ _ _ c.sealed_length.ensures c.writes.ensures c.if-not-writes.false).counts.max_bidders)
-
-pub overflow_add-items-2 : goal.overflow_add-items-2
-overflow_add-items-2 c = let r = room _ _ _ _ _ c.sealed_length.ensures c.writes.ensures c.if-not-writes.false in omega (arith, r.counts.max_items, r.counts.max_bidders)
-
-pub put_amounts-requires : goal.put_amounts-requires
-unfolding sealed_length
-put_amounts-requires c = let r = room _ _ _ _ _ c.sealed_length.ensures c.writes.ensures c.if-not-writes.false in let n = r.counts.max_bidders in (omega arith, omega (arith, r.fits))
 
 pub returns : goal.returns
 returns c =

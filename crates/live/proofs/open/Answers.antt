@@ -32,9 +32,6 @@ returns-then-items-gt32 c =
       q.1 ∙ ap (λ (x : ℕ). filled_by x a.items a.bidders ts) (number-zero a.items a.bidders a.start.now ts),
     )
 
-pub slice_bounds-open_above-end : goal.slice_bounds-open_above-end
-slice_bounds-open_above-end c = lent _ c.args.items c.if-items-gt32.false
-
 pub returns : goal.returns
 returns c =
     let a = c.args in

@@ -3,31 +3,26 @@ use mathlib.Core.Path.{◌∙◌, ap}
 use mathlib.Core.Bool.{◌&&◌}
 use Prim.Native.Nat.{ℕ}
 use native.Mathlib.Omega.{arith}
-use lib.ListN.{get_or, length-set, length-replicate}
+use lib.ListN.{get_or, length-set}
 use lib.Seq.{get_or-set_same, get_or-set_other}
 use borrow.Author.Count.{below_more}
 use Rattle.sets.specs.Bit.{is_set, has}
 use Rattle.sets.proofs.Members.{is_set-set_of}
 use Rattle.matching.proofs.within.Goals as goal
 
-pub loop-k-init : goal.loop-k-init
-loop-k-init c = (omega arith, length-replicate {A = ℕ} 64 0, λ b l. absurd (let n : ⊥ = omega arith in n))
-
-pub loop-k-preserved : goal.loop-k-preserved
+pub loop-set-preserved : goal.loop-set-preserved
 unfolding has
-loop-k-preserved c =
-    let at = c.loop-k in
-    let a = c.args in
-    let s = get_or a.demand.now at.k 0 in
-    let v = c.common_items.result in
-    let l = at.invariant.1 in (
-      omega arith,
-      length-set at.wanted at.k v ∙ l,
-      below_more _ _
-          (λ b lb i li. ap (λ (x : ℕ). is_set x i) (get_or-set_other at.wanted at.k b v 0 (λ q. omega arith)) ∙ at.invariant.2 b lb i li)
-          (λ i li. ap (λ (x : ℕ). is_set x i) (get_or-set_same at.wanted at.k v 0 (omega arith) ∙ c.common_items.ensures)
-          ∙ is_set-set_of 32 (λ j. has s j && has a.items j) i li),
-    )
-
-pub returns : goal.returns
-returns c = λ b i lb li. c.loop-k.invariant.2 b (omega arith) i li
+loop-set-preserved c =
+    let at = c.loop-set in
+    let v = c.common.result in
+    let s = get_or at.set-items at.set-index 0 in
+    let h = at.invariant in
+    record {
+      long = length-set at.set-items at.set-index v ∙ h.long;
+      left = λ b lb. get_or-set_other at.set-items at.set-index b v 0 (λ q. omega arith) ∙ h.left b (omega arith);
+      cut = below_more _ _
+          (λ b lb i li. ap (λ (x : ℕ). is_set x i) (get_or-set_other at.set-items at.set-index b v 0 (λ q. omega arith)) ∙ h.cut b lb i li)
+          (λ i li. ap (λ (x : ℕ). is_set x i) (get_or-set_same at.set-items at.set-index v 0 (omega (arith, h.long)) ∙ c.common.ensures)
+          ∙ is_set-set_of 32 (λ j. has s j && has c.args.items j) i li
+          ∙ ap (λ (x : ℕ). is_set x i && is_set c.args.items i) (h.left at.set-index (omega arith)));
+    }

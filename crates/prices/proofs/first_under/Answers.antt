@@ -1,26 +1,32 @@
 -- `prices::first_under` meets its contract. The furthest so far that a floor is above its price is above 0 just where one of those passed is. Assumes nothing.
-use Prim.Native.Nat.{◌-◌, max}
-use mathlib.Core.Path.{refl, ap, ◌∙◌}
-use native.Mathlib.Omega.{arith}
-use lib.ListN.{get_or}
+use Prim.Native.Nat.{ℕ, ◌-◌, max}
+use mathlib.Core.Path.{refl, sym, ap, ap₂, ◌∙◌}
+use lib.Dec.{ltb}
+use lib.ListN.{length, get_or, length-append}
+use Rattle.std.proofs.Common.{rules}
+use Rattle.std.proofs.lemmas.Slice.Zip.{zip_turn, zip_end}
 use Rattle.sets.specs.Count.{any_below}
-use Rattle.prices.proofs.Amounts.{past_more, past_end}
+use Rattle.prices.proofs.Amounts.{past_more}
 use Rattle.prices.proofs.first_under.Goals as goal
 
-pub loop-i-init : goal.loop-i-init
+pub loop-price-init : goal.loop-price-init
 unfolding any_below
-loop-i-init c = (omega arith, refl)
+loop-price-init c = refl
 
-pub loop-i-preserved : goal.loop-i-preserved
-loop-i-preserved c =
+pub loop-price-preserved : goal.loop-price-preserved
+loop-price-preserved c =
     let a = c.args in
-    let at = c.loop-i in (
-      omega (arith, c.loop-i-test.true),
-      past_more 0 (λ k. get_or a.floors.now k 0 - get_or a.prices.now k 0) at.i at.most c.larger-most.result at.invariant.1 (c.larger-most.ensures ∙ ap (max at.most) c.over.ensures),
-    )
+    let at = c.loop-price in
+    let far = λ (k : ℕ). get_or a.floors.now k 0 - get_or a.prices.now k 0 in
+    let here = zip_turn a.prices.now a.floors.now at.yielded c.into_iter-price-iterator.result at.price-iterator c.next.new.self c.next.result (search rules) (search rules) at.yielded_by _ c.in-Some.is c.next.ensures.steps in
+    past_more 0 far (length at.yielded) at.most c.larger-most.result at.invariant
+    (c.larger-most.ensures ∙ ap (max at.most) (c.over.ensures ∙ ap₂ ◌-◌ (here.3 0) (here.2 0)))
+    ∙ sym (ap (λ (n : ℕ). any_below n (λ k. ltb 0 (far k))) (length-append at.yielded _))
 
 pub returns : goal.returns
 returns c =
     let a = c.args in
-    let at = c.loop-i in
-    past_end 0 (λ k. get_or a.floors.now k 0 - get_or a.prices.now k 0) at.i a.n at.most at.invariant.0 c.loop-i-test.false at.invariant.1
+    let at = c.loop-price in
+    at.invariant
+    ∙ ap (λ (n : ℕ). any_below n (λ k. ltb 0 (get_or a.floors.now k 0 - get_or a.prices.now k 0)))
+    (zip_end a.prices.now a.floors.now at.yielded c.into_iter-price-iterator.result at.price-iterator c.next.new.self c.next.result (search rules) (search rules) at.yielded_by c.in-None.is c.next.ensures.steps)

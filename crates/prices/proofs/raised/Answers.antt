@@ -1,25 +1,16 @@
--- `prices::raised` meets its contract. Each turn fills one place. Assumes nothing.
+-- `prices::raised` meets its contract: each place is filled by a call. Assumes nothing.
 use Prim.Native.Nat.{◌+◌, min}
-use mathlib.Core.Path.{ap, ◌∙◌}
-use mathlib.Core.Bool.{Bool}
+use mathlib.Core.Path.{◌∙◌}
 use lib.ListN.{get_or}
+use Rattle.std.proofs.Common.{rules}
+use Rattle.sets.specs.Bit.{has}
 use Rattle.sets.specs.Count.{to_nat}
-use Rattle.sets.proofs.Filling.{fill_start, fill-next, fill_end}
+use Rattle.sets.proofs.FromFn.{from_fn-tabulate}
 use Rattle.prices.proofs.Moving.{raised_is}
 use Rattle.prices.proofs.raised.Goals as goal
-
-pub loop-i-init : goal.loop-i-init
-loop-i-init c = fill_start 32 _
-
-pub loop-i-preserved : goal.loop-i-preserved
-loop-i-preserved c =
-    let a = c.args in
-    let at = c.loop-i in
-    fill-next 32 _ at.i at.next c.up.result at.invariant c.loop-i-test.true
-    (c.up.ensures ∙ ap (λ (x : Bool). min 65535 (get_or a.prices.now at.i 0 + to_nat x)) c.has_item.ensures)
 
 pub returns : goal.returns
 returns c =
     let a = c.args in
-    let at = c.loop-i in
-    fill_end 32 _ at.i at.next at.invariant c.loop-i-test.false ∙ raised_is a.prices.now a.set
+    from_fn-tabulate _ _ 32 (λ k. min 65535 (get_or a.prices.now k 0 + to_nat (has a.set (k + 1)))) (λ q i y l k. search rules) _ c.from_fn.ensures.items
+    ∙ raised_is a.prices.now a.set

@@ -40,29 +40,17 @@ overflow_mul-size c =
     in_order c.args.bytes.now c.bid_sheet-s.result c.bid_sheet-s.ensures (omega (arith, c.if-s-gt0.false)) in
     omega (arith, (read).parts.size)
 
-pub slice_bounds-start-end : goal.slice_bounds-start-end
-slice_bounds-start-end c =
+pub shared_ref_as_front-put_sheet : goal.shared_ref_as_front-put_sheet
+shared_ref_as_front-put_sheet c =
     let read : InOrder c.args.bytes.now c.bid_sheet-s.result =
     in_order c.args.bytes.now c.bid_sheet-s.result c.bid_sheet-s.ensures (omega (arith, c.if-s-gt0.false)) in
-    let p = (read).parts in omega (arith, p.items, p.start-places)
+    (read).parts.items
 
-pub slice_bounds-put_sheet-end : goal.slice_bounds-put_sheet-end
-slice_bounds-put_sheet-end c =
+pub shared_ref_as_front-put_sheet-2 : goal.shared_ref_as_front-put_sheet-2
+shared_ref_as_front-put_sheet-2 c =
     let read : InOrder c.args.bytes.now c.bid_sheet-s.result =
     in_order c.args.bytes.now c.bid_sheet-s.result c.bid_sheet-s.ensures (omega (arith, c.if-s-gt0.false)) in
-    sym (read).parts.starts
-
-pub slice_bounds-bids-end : goal.slice_bounds-bids-end
-slice_bounds-bids-end c =
-    let read : InOrder c.args.bytes.now c.bid_sheet-s.result =
-    in_order c.args.bytes.now c.bid_sheet-s.result c.bid_sheet-s.ensures (omega (arith, c.if-s-gt0.false)) in
-    let p = (read).parts in omega (arith, p.size, p.bids-places)
-
-pub slice_bounds-put_sheet-end-2 : goal.slice_bounds-put_sheet-end-2
-slice_bounds-put_sheet-end-2 c =
-    let read : InOrder c.args.bytes.now c.bid_sheet-s.result =
-    in_order c.args.bytes.now c.bid_sheet-s.result c.bid_sheet-s.ensures (omega (arith, c.if-s-gt0.false)) in
-    sym (read).parts.rows
+    (read).parts.size
 
 pub put_sheet-requires : goal.put_sheet-requires
 put_sheet-requires c =

@@ -17,6 +17,7 @@ use Rattle.bids.specs.Refusal.{sealed_refusal}
 use Rattle.bids.proofs.Limits.{fine, accepted-within, without_floors}
 use Rattle.auction.proofs.Settling.{Ready, ready}
 use Rattle.reasons.specs.Sheets.{reason_sheet}
+use Rattle.reasons.specs.Steps.{move_of}
 use Rattle.reasons.proofs.Lines.{line_of, lines_next}
 use Rattle.reasons.proofs.Along.{at-start, past-items, line-is, next-is}
 use Rattle.reasons.proofs.put_rounds.Goals as goal
@@ -38,7 +39,7 @@ pub loop-k-init : goal.loop-k-init
 unfolding joined sheet_of sheet_above
 loop-k-init c =
     let a = c.args in
-    (at-start (sheet_of a.items a.bidders a.start.now a.bids.now) (closes a.items a.bidders a.start.now a.bids.now c.requires.0) (replicate 32 0) (no-floors a.items a.bidders a.start.now a.bids.now) c.in_places-p.result c.in_places-p.ensures, refl, omega arith, refl)
+    (at-start (sheet_of a.items a.bidders a.start.now a.bids.now) (closes a.items a.bidders a.start.now a.bids.now c.requires.0) (replicate 32 0) (no-floors a.items a.bidders a.start.now a.bids.now) c.in_places-p.result c.in_places-p.ensures, refl)
 
 pub reason_at-r-requires : goal.reason_at-r-requires
 unfolding sheet_of sheet_above
@@ -46,20 +47,20 @@ reason_at-r-requires c =
     let a = c.args in
     let pre = c.requires in
     let f = fine a.items a.bidders a.start.now (replicate a.items 0) a.bids.now (without_floors a.items a.bidders a.start.now a.bids.now ∙ pre.0) in
-    let lt : c.loop-k.k < round_count (sheet_of a.items a.bidders a.start.now a.bids.now) = omega (arith, pre.2, c.loop-k-test.true) in
+    let lt : c.loop-k.k < round_count (sheet_of a.items a.bidders a.start.now a.bids.now) = omega (arith, pre.2) in
     (f.max_items, f.max_bidders, f.bids-long, past-items (sheet_of a.items a.bidders a.start.now a.bids.now) (closes a.items a.bidders a.start.now a.bids.now pre.0) (replicate 32 0) (no-floors a.items a.bidders a.start.now a.bids.now) c.loop-k.k lt c.loop-k.p c.loop-k.invariant.0)
 
 pub overflow_mul-k : goal.overflow_mul-k
-overflow_mul-k c = let a = c.args in omega (arith, few-rounds a.items a.bidders a.start.now a.bids.now c.requires.0, c.requires.2, c.loop-k-test.true)
+overflow_mul-k c = let a = c.args in omega (arith, few-rounds a.items a.bidders a.start.now a.bids.now c.requires.0, c.requires.2)
 
 pub overflow_cast-k : goal.overflow_cast-k
-overflow_cast-k c = let a = c.args in omega (arith, few-rounds a.items a.bidders a.start.now a.bids.now c.requires.0, c.requires.2, c.loop-k-test.true)
+overflow_cast-k c = let a = c.args in omega (arith, few-rounds a.items a.bidders a.start.now a.bids.now c.requires.0, c.requires.2)
 
 pub overflow_add-k : goal.overflow_add-k
-overflow_add-k c = let a = c.args in omega (arith, few-rounds a.items a.bidders a.start.now a.bids.now c.requires.0, c.requires.2, c.loop-k-test.true)
+overflow_add-k c = let a = c.args in omega (arith, few-rounds a.items a.bidders a.start.now a.bids.now c.requires.0, c.requires.2)
 
 pub put_line-requires : goal.put_line-requires
-put_line-requires c = omega (arith, c.loop-k.invariant.3, c.requires.3, c.loop-k-test.true)
+put_line-requires c = omega (arith, c.requires.3)
 
 pub loop-k-preserved : goal.loop-k-preserved
 unfolding sheet_of sheet_above
@@ -72,13 +73,12 @@ loop-k-preserved c =
     let s : Sheet = sheet_of a.items a.bidders a.start.now a.bids.now in
     let g = closes a.items a.bidders a.start.now a.bids.now pre.0 in
     let floored = no-floors a.items a.bidders a.start.now a.bids.now in
-    let lt : here.k < round_count s = omega (arith, pre.2, c.loop-k-test.true) in
-    let turned = ap (λ (u : ℕ). leb u here.k) pre.1 in (
-      next-is s g (replicate 32 0) floored here.k lt here.p here.invariant.0 (leb a.raised here.k) turned r.result r.ensures c.moved-p.result c.moved-p.ensures,
+    let lt : here.k < round_count s = omega (arith, pre.2) in
+    let step = c.of_round-step in
+    let turned = step.ensures ∙ ap (λ (u : ℕ). move_of (leb u here.k)) pre.1 in (
+      next-is s g (replicate 32 0) floored here.k lt here.p here.invariant.0 step.result turned r.result r.ensures c.moved-p.result c.moved-p.ensures,
       lines_next s a.out.now here.out put.new.out here.k here.invariant.1
-          (put.ensures ∙ ap (λ (vs : List ℕ). sets here.out (31 * here.k) vs) (line-is s g (replicate 32 0) floored here.k lt here.p here.invariant.0 (leb a.raised here.k) turned r.result r.ensures)),
-      omega (arith, c.loop-k-test.true),
-      put.auto.out ∙ here.invariant.3,
+          (put.ensures ∙ ap (λ (vs : List ℕ). sets here.out (31 * here.k) vs) (line-is s g (replicate 32 0) floored here.k lt here.p here.invariant.0 step.result turned r.result r.ensures)),
     )
 
 pub returns : goal.returns
@@ -86,5 +86,5 @@ unfolding reason_sheet
 returns c =
     let a = c.args in
     let here = c.loop-k in
-    let all : here.k ≡ round_count (sheet_of a.items a.bidders a.start.now a.bids.now) = omega (arith, c.requires.2, here.invariant.2, c.loop-k-test.false) in
+    let all : here.k ≡ round_count (sheet_of a.items a.bidders a.start.now a.bids.now) = omega (arith, c.requires.2) in
     here.invariant.1 ∙ ap (λ (k : ℕ). sets a.out.now 0 (joined k (line_of (sheet_of a.items a.bidders a.start.now a.bids.now)))) all

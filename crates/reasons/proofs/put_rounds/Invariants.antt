@@ -1,7 +1,5 @@
 -- `reasons::put_rounds` meets its contract. Each turn writes one round's line. Assumes nothing.
-use Prim.Native.Nat.{◌-◌, ◌≤◌}
 use mathlib.Core.Path.{◌≡◌}
-use lib.ListN.{length}
 use lib.Seq.{sets}
 use Rattle.sets.specs.Lists.{places}
 use Rattle.rule.specs.Round.{path}
@@ -11,7 +9,4 @@ use Rattle.reasons.proofs.Lines.{line_of}
 use Rattle.reasons.proofs.put_rounds.Given as goal
 
 abbrev pub invariant-loop-k : goal.invariant-loop-k
-invariant-loop-k l = (l.p ≡ places 32 (path (sheet_of l.items l.bidders l.start l.bids) l.k).prices) × (l.out ≡ sets l.initial.out 0 (joined l.k (line_of (sheet_of l.items l.bidders l.start l.bids)))) × (l.k ≤ l.rounds) × (length l.out ≡ length l.initial.out)
-
-abbrev pub decreases-loop-k : goal.decreases-loop-k
-decreases-loop-k l = l.rounds - l.k
+invariant-loop-k l = (l.p ≡ places 32 (path (sheet_of l.items l.bidders l.start l.bids) l.k).prices) × (l.out ≡ sets l.initial.out 0 (joined l.k (line_of (sheet_of l.items l.bidders l.start l.bids))))

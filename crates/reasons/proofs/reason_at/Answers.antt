@@ -8,5 +8,5 @@ returns c =
     let a = c.args in
     let pre = c.requires in
     let d = c.demands_at-d in
-    reason-is a.items a.bidders (replicate 32 0) a.prices.now a.bids.now (record { max_items = pre.0; max_bidders = pre.1; exact = pre.2 }) pre.3 a.falls d.result d.ensures
+    reason-is a.items a.bidders (replicate 32 0) a.prices.now a.bids.now (record { max_items = pre.0; max_bidders = pre.1; exact = pre.2 }) pre.3 a.step d.result d.ensures
     c.above_floors.result c.moving-set.result c.kind.result c.who.result c.above_floors.ensures c.moving-set.ensures c.kind.ensures c.who.ensures

@@ -5,4 +5,4 @@ use Rattle.reports.proofs.holds_beyond.Goals as goal
 pub returns : goal.returns
 returns c =
     let a = c.args in
-    beyond-any a.items a.set c.first_items.result c.other_items.result c.first_items.ensures c.other_items.ensures
+    beyond-any a.items a.set c.first.result c.but.result c.first.ensures c.but.ensures

@@ -2,10 +2,10 @@
 use Rattle.reports.specs.Report.{saying, is_empty}
 use Rattle.reports.proofs.is_empty.Goals as goal
 
-pub returns-then-null : goal.returns-then-null
+pub returns-then-not-null : goal.returns-then-not-null
 unfolding is_empty saying
-returns-then-null c = simp c.if-null.true
+returns-then-not-null c = simp c.if-not-null.true
 
-pub returns : goal.returns
+pub returns-else-not-null : goal.returns-else-not-null
 unfolding is_empty saying
-returns c = simp c.if-null.false
+returns-else-not-null c = simp c.if-not-null.false

@@ -9,4 +9,4 @@ pub returns : goal.returns
 returns c =
     let a = c.args in
     ap (λ (x : ℕ). ltb x a.bidders) c.bidder_count.ensures
-    ∙ missing-count a.bidders a.reported c.first_bidders.result c.common_bidders-here.result c.ranges.reported.fits c.first_bidders.ensures c.common_bidders-here.ensures
+    ∙ missing-count a.bidders a.reported c.first.result c.common-here.result c.ranges.reported.fits c.first.ensures c.common-here.ensures

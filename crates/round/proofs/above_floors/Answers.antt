@@ -19,22 +19,16 @@ amount-next p k = ap (amount p) (add-one k)
 
 pub loop-i-init : goal.loop-i-init
 unfolding set_of
-loop-i-init c = (omega arith, refl)
+loop-i-init c = refl
 
 pub loop-i-preserved : goal.loop-i-preserved
 loop-i-preserved c =
     let a = c.args in
     let at = c.loop-i in
-    let lt = c.loop-i-test.true in (
-      omega arith,
-      add-next 32 (λ j. ltb (amount a.floors.now j) (amount a.prices.now j)) at.i lt at.s
-          (ltb (get_or a.floors.now at.i 0) (get_or a.prices.now at.i 0)) c.add_item-s.result at.invariant.1
-          (sym (ap₂ ltb (amount-next a.floors.now at.i) (amount-next a.prices.now at.i))) c.add_item-s.ensures,
-    )
+    add-next 32 (λ j. ltb (amount a.floors.now j) (amount a.prices.now j)) at.i (omega arith) at.s
+    (ltb (get_or a.floors.now at.i 0) (get_or a.prices.now at.i 0)) c.add-s.result at.invariant
+    (sym (ap₂ ltb (amount-next a.floors.now at.i) (amount-next a.prices.now at.i))) c.add-s.ensures
 
 pub returns : goal.returns
 unfolding above_floors
-returns c =
-    let a = c.args in
-    let at = c.loop-i in
-    add-end (λ j. ltb (amount a.floors.now j) (amount a.prices.now j)) at.i 32 at.s at.invariant.1 at.invariant.0 c.loop-i-test.false
+returns c = add-end _ c.loop-i.i 32 c.loop-i.s c.loop-i.invariant (omega arith) (omega arith)

@@ -1,5 +1,4 @@
 -- `round::above_floors` meets its contract. Each turn adds one item, if its price is above the floor. Assumes nothing.
-use Prim.Native.Nat.{◌-◌, ◌≤◌}
 use mathlib.Core.Path.{◌≡◌}
 use lib.Dec.{ltb}
 use Rattle.sets.specs.Bit.{set_of}
@@ -7,7 +6,4 @@ use Rattle.rule.specs.Sheet.{amount}
 use Rattle.round.proofs.above_floors.Given as goal
 
 abbrev pub invariant-loop-i : goal.invariant-loop-i
-invariant-loop-i l = (l.i ≤ 32) × (l.s ≡ set_of l.i (λ j. ltb (amount l.floors j) (amount l.prices j)))
-
-abbrev pub decreases-loop-i : goal.decreases-loop-i
-decreases-loop-i l = 32 - l.i
+invariant-loop-i l = l.s ≡ set_of l.i (λ j. ltb (amount l.floors j) (amount l.prices j))

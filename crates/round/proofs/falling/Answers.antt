@@ -7,4 +7,4 @@ returns c =
     let a = c.args in
     let own = c.inside-own in
     let kept = c.excess_demand-kept in
-    λ nulls. falling-found a.sets.now a.above nulls own.result kept.result c.other_items.result own.ensures kept.ensures c.other_items.ensures
+    λ nulls. falling-found a.sets.now a.above nulls own.result kept.result c.but.result own.ensures kept.ensures c.but.ensures

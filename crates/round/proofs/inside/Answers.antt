@@ -1,16 +1,12 @@
--- `round::inside` meets its contract. Each turn fills one place. Assumes nothing.
-use Rattle.sets.proofs.Filling.{fill_start, fill-next, fill_end}
+-- `round::inside` meets its contract: each place is filled by a call. Assumes nothing.
+use mathlib.Core.Bool.{◌&&◌}
+use lib.ListN.{get_or}
+use Rattle.std.proofs.Common.{rules}
+use Rattle.sets.specs.Bit.{has, set_of}
+use Rattle.sets.proofs.FromFn.{from_fn-tabulate}
 use Rattle.round.proofs.inside.Goals as goal
-
-pub loop-b-init : goal.loop-b-init
-loop-b-init c = fill_start 64 _
-
-pub loop-b-preserved : goal.loop-b-preserved
-loop-b-preserved c =
-    let at = c.loop-b in
-    fill-next 64 _ at.b at.own c.common_items.result at.invariant c.loop-b-test.true c.common_items.ensures
 
 pub returns : goal.returns
 returns c =
-    let at = c.loop-b in
-    fill_end 64 _ at.b at.own at.invariant c.loop-b-test.false
+    from_fn-tabulate _ _ 64 (λ b. set_of 32 (λ k. has (get_or c.args.sets.now b 0) k && has c.args.above k))
+    (λ q i y l s. search rules) c.from_fn.result c.from_fn.ensures.items

@@ -10,21 +10,20 @@ returns-then-out-lt3 c =
     let a = c.args in
     (sym (ap length (no_answer a.bytes.now (length a.out.now) c.if-out-lt3.true)), nothing_lent a.bytes.now a.out.now c.if-out-lt3.true)
 
-pub returns-then-why-eq0 : goal.returns-then-why-eq0
-returns-then-why-eq0 c =
+pub returns-in-Ok : goal.returns-in-Ok
+returns-in-Ok c =
     let a = c.args in
-    let done = c.close-done in
+    let done = c.close in
     let room : 3 ≤ length a.out.now = c.if-out-lt3.false in (
-      closing_long a.bytes.now a.out.now done.result done.new.out done.ensures room c.if-why-eq0.true,
-      closing-lent a.bytes.now a.out.now done.result done.new.out done.ensures room c.if-why-eq0.true,
+      closing_long a.bytes.now a.out.now done.result done.new.out done.ensures room c.in-Ok.length c.in-Ok.is,
+      closing-lent a.bytes.now a.out.now done.result done.new.out done.ensures room c.in-Ok.length c.in-Ok.is,
     )
 
-pub returns : goal.returns
-returns c =
+pub returns-in-Err : goal.returns-in-Err
+returns-in-Err c =
     let a = c.args in
-    let done = c.close-done in
-    let room : 3 ≤ length a.out.now = c.if-out-lt3.false in
-    let why = c.if-why-eq0.false in (
-      line-long a.bytes.now a.out.now done.result done.new.out done.ensures room why,
-      line-lent a.bytes.now a.out.now done.result done.new.out done.ensures room why c.write_refusal.new.out c.write_refusal.ensures,
+    let done = c.close in
+    let enough : 3 ≤ length a.out.now = c.if-out-lt3.false in (
+      line-long a.bytes.now a.out.now done.result done.new.out done.ensures enough c.in-Err.why c.in-Err.is,
+      line-lent a.bytes.now a.out.now done.result done.new.out done.ensures enough c.in-Err.why c.in-Err.is c.write_refusal.new.out c.write_refusal.ensures,
     )

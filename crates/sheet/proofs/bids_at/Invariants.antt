@@ -8,7 +8,4 @@ use Rattle.sheet.proofs.bids_at.Given as goal
 
 abbrev pub invariant-loop-b : goal.invariant-loop-b
 invariant-loop-b l = (bids_at l.bidders l.items l.s l.at ≡ ahead (take (l.b * l.items) l.into) (bids_at (l.bidders - l.b) l.items l.s l.here))
-    × (l.here ≤ length l.s) × (l.b ≤ l.bidders) × (length l.into ≡ length l.initial.into)
-
-abbrev pub decreases-loop-b : goal.decreases-loop-b
-decreases-loop-b l = l.bidders - l.b
+    × (l.here ≤ length l.s)

@@ -8,7 +8,6 @@ use Rattle.rule.specs.Refusal.{bad_items, bad_bidders}
 use Rattle.lines.specs.Lines.{sealed_length, bytes_of}
 use Rattle.lines.proofs.Written.{few-make, bytes-by, written_is}
 use Rattle.auction.specs.declared.Closing.{Closing}
-use Rattle.sheet.specs.Steps.{read_refusal}
 use Rattle.sheet.proofs.Ends.{no_room, by-sealed, not_written, is-written}
 use Rattle.sheet.proofs.Longer.{most-items, most-bidders}
 use Rattle.sheet.proofs.close_read.Goals as goal
@@ -23,41 +22,28 @@ returns-then-out-long c =
     let p = c.requires in
     let less : length a.out.now < sealed_length a.items a.bidders =
     subst (λ (k : ℕ). length a.out.now < k) (c.sealed_length-long.ensures ∙ long a.items a.bidders p.0 p.1) c.if-out-long.true in
-    not_written a.items a.bidders a.start.now a.bids.now a.out.now c.refused.result 3 (omega arith)
-    (no_room a.items a.bidders a.start.now a.bids.now a.out.now less)
-    c.refused.ensures.0 c.refused.ensures.1
+    not_written a.items a.bidders a.start.now a.bids.now a.out.now 3 (omega arith) (no_room a.items a.bidders a.start.now a.bids.now a.out.now less)
 
-pub returns-then-why-gt0 : goal.returns-then-why-gt0
-returns-then-why-gt0 c =
-    let room : sealed_length c.args.items c.args.bidders ≤ length c.args.out.now =
+pub returns-then-c-gt0 : goal.returns-then-c-gt0
+returns-then-c-gt0 c =
     let a = c.args in
     let p = c.requires in
+    let room : sealed_length a.items a.bidders ≤ length a.out.now =
     subst (λ (k : ℕ). k ≤ length a.out.now) (c.sealed_length-long.ensures ∙ long a.items a.bidders p.0 p.1) c.if-out-long.false in
-    let number : read_refusal (record { items = c.args.items; bidders = c.args.bidders; start = c.args.start.now; bids = c.args.bids.now }) (length c.args.out.now) ≡ c.sealed-c.result.refusal =
-    let a = c.args in
-    let p = c.requires in
-    by-sealed a.items a.bidders a.start.now a.bids.now a.out.now p.0 p.1 p.2 p.3 (room)
-    ∙ sym (ap (λ (x : Closing). x.refusal) c.sealed-c.ensures.outcome) in
-    let a = c.args in
-    not_written a.items a.bidders a.start.now a.bids.now a.out.now c.refused-then-why-gt0.result c.sealed-c.result.refusal (omega arith)
-    (number) c.refused-then-why-gt0.ensures.0 c.refused-then-why-gt0.ensures.1
+    not_written a.items a.bidders a.start.now a.bids.now a.out.now c.sealed-c.result.refusal c.if-c-gt0.true
+    (by-sealed a.items a.bidders a.start.now a.bids.now a.out.now p.0 p.1 p.2 p.3 room ∙ sym (ap (λ (x : Closing). x.refusal) c.sealed-c.ensures.outcome))
 
 pub returns : goal.returns
 returns c =
-    let room : sealed_length c.args.items c.args.bidders ≤ length c.args.out.now =
     let a = c.args in
     let p = c.requires in
+    let room : sealed_length a.items a.bidders ≤ length a.out.now =
     subst (λ (k : ℕ). k ≤ length a.out.now) (c.sealed_length-long.ensures ∙ long a.items a.bidders p.0 p.1) c.if-out-long.false in
-    let number : read_refusal (record { items = c.args.items; bidders = c.args.bidders; start = c.args.start.now; bids = c.args.bids.now }) (length c.args.out.now) ≡ c.sealed-c.result.refusal =
-    let a = c.args in
-    let p = c.requires in
-    by-sealed a.items a.bidders a.start.now a.bids.now a.out.now p.0 p.1 p.2 p.3 (room)
-    ∙ sym (ap (λ (x : Closing). x.refusal) c.sealed-c.ensures.outcome) in
-    let a = c.args in
-    let p = c.requires in
     let q = c.sealed-c.result in
     let none-given : q.refusal ≡ 0 = omega arith in
-    is-written a.items a.bidders a.start.now a.bids.now a.out.now q _ _ (number ∙ none-given) c.sealed-c.ensures.outcome
-    none-given (c.sealed_length-long.ensures ∙ long a.items a.bidders p.0 p.1)
-    (written_is a.items a.bidders (sealed_length a.items a.bidders) (length a.out.now) (most-items a.items p.0) (most-bidders a.bidders p.1) (room))
+    is-written a.items a.bidders a.start.now a.bids.now a.out.now q c.sealed_length-long.result _
+    (by-sealed a.items a.bidders a.start.now a.bids.now a.out.now p.0 p.1 p.2 p.3 room ∙ sym (ap (λ (x : Closing). x.refusal) c.sealed-c.ensures.outcome) ∙ none-given)
+    c.sealed-c.ensures.outcome
+    (c.sealed_length-long.ensures ∙ long a.items a.bidders p.0 p.1)
+    (written_is a.items a.bidders (sealed_length a.items a.bidders) (length a.out.now) (most-items a.items p.0) (most-bidders a.bidders p.1) room)
     c.write_sealed.ensures.1

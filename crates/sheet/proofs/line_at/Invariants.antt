@@ -8,7 +8,4 @@ use Rattle.sheet.proofs.line_at.Given as goal
 
 abbrev pub invariant-loop-i : goal.invariant-loop-i
 invariant-loop-i l = (numbers_at (length l.initial.into) 4 l.s l.at ≡ ahead (take l.i l.into) (numbers_at (length l.initial.into - l.i) 4 l.s (l.at + 4 * l.i)))
-    × (l.at + 4 * l.i ≤ length l.s) × (l.i ≤ length l.initial.into) × (length l.into ≡ length l.initial.into)
-
-abbrev pub decreases-loop-i : goal.decreases-loop-i
-decreases-loop-i l = length l.initial.into - l.i
+    × (l.at + 4 * l.i ≤ length l.s)

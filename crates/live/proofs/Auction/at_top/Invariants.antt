@@ -2,7 +2,7 @@
 use mathlib.Core.Path.{◌≡◌}
 use mathlib.Core.List.{List}
 use mathlib.Core.Bool.{Bool, false, ◌&&◌}
-use Prim.Native.Nat.{ℕ, suc, ◌-◌, ◌≤◌, ◌<◌}
+use Prim.Native.Nat.{ℕ, suc, ◌<◌}
 use lib.Dec.{eqb}
 use Rattle.sets.specs.Bit.{has}
 use Rattle.rule.specs.Sheet.{amount}
@@ -12,7 +12,4 @@ abbrev pub top_at : List ℕ → ℕ → ℕ → Bool
 top_at prices set k = has set (suc k) && eqb (amount prices (suc k)) 4095
 
 abbrev pub invariant-loop-k : goal.invariant-loop-k
-invariant-loop-k l = (l.k ≤ l.self.items) × (l.self.items ≤ 32) × ((j : ℕ) → j < l.k → top_at l.self.prices l.set j ≡ false)
-
-abbrev pub decreases-loop-k : goal.decreases-loop-k
-decreases-loop-k l = l.self.items - l.k
+invariant-loop-k l = (j : ℕ) → j < l.k → top_at l.self.prices l.set j ≡ false

@@ -1,21 +1,22 @@
 -- `live::Auction::clear` meets its contract. Assumes nothing.
 use Prim.Native.Nat.{ℕ}
-use mathlib.Core.Path.{sym, ap, ◌∙◌}
+use mathlib.Core.Path.{ap, ◌∙◌}
 use Rattle.live.specs.Calls.{cleared, clear_number, clear}
+use Rattle.live.specs.Refusals.{refusal_number}
 use Rattle.live.specs.declared.Auction.{Auction}
+use Rattle.live.proofs.Refusals.{numbered}
 use Rattle.live.proofs.Refusing.{replied, reply-kept, reply-new}
 use Rattle.live.proofs.Auction.clear.Goals as goal
 
-pub returns-then-number-ne0 : goal.returns-then-number-ne0
+pub returns-in-Ok : goal.returns-in-Ok
 unfolding clear
-returns-then-number-ne0 c =
+returns-in-Ok c =
     let r = c.args.self in
-    let x = c.clear_number-number.result in
-    c.kept.ensures ∙ reply-kept x (cleared r) r c.if-number-ne0.true ∙ ap (λ (y : ℕ). replied y (cleared r) r) c.clear_number-number.ensures
+    ap (λ (a : Auction). record { number = 0; next = a }) c.cleared.ensures ∙ reply-new (clear_number r) (cleared r) r c.in-Ok.ensures
 
-pub returns : goal.returns
+pub returns-in-Err : goal.returns-in-Err
 unfolding clear
-returns c =
+returns-in-Err c =
     let r = c.args.self in
-    ap (λ (a : Auction). record { number = 0; next = a }) c.cleared.ensures
-    ∙ reply-new (clear_number r) (cleared r) r (sym c.if-number-ne0.false ∙ c.clear_number-number.ensures)
+    let e = c.in-Err.refusal in
+    c.kept.ensures ∙ reply-kept (refusal_number e) (cleared r) r (numbered e) ∙ ap (λ (y : ℕ). replied y (cleared r) r) c.in-Err.ensures

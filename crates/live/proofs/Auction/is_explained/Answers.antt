@@ -10,8 +10,8 @@ use Rattle.live.proofs.Auction.is_explained.Goals as goal
 pub overflow_mul-a : goal.overflow_mul-a
 overflow_mul-a c = omega (arith, c.requires.1, (formed c.args.self c.requires.0.formed).max_bidders)
 
-pub overflow_add-b : goal.overflow_add-b
-overflow_add-b c = omega (arith, c.requires.1, (formed c.args.self c.requires.0.formed).max_bidders)
+pub overflow_add-a : goal.overflow_add-a
+overflow_add-a c = omega (arith, c.requires.1, (formed c.args.self c.requires.0.formed).max_bidders)
 
 pub offset_bounds-tables-a : goal.offset_bounds-tables-a
 offset_bounds-tables-a c = omega (arith, c.requires.1, (formed c.args.self c.requires.0.formed).max_bidders)

@@ -34,5 +34,5 @@ unfolding cleared settled
 returns c =
     let r = c.args.self in
     let set = c.args.set in
-    ap (λ (n : Auction). moved r set n c.lowered-less.result) c.cleared-next.ensures
-    ∙ ap (moved r set (cleared r)) c.lowered-less.ensures
+    ap (λ (n : Auction). moved r set n c.lowered.result) c.cleared.ensures
+    ∙ ap (moved r set (cleared r)) c.lowered.ensures

@@ -35,5 +35,5 @@ unfolding cleared settled
 returns c =
     let r = c.args.self in
     let set = c.args.set in
-    ap (λ (n : Auction). moved r set n c.raised-higher.result) c.cleared-next.ensures
-    ∙ ap (moved r set (cleared r)) (c.raised-higher.ensures ∙ raised-here r c.requires.0 set)
+    ap (λ (n : Auction). moved r set n c.raised.result) c.cleared.ensures
+    ∙ ap (moved r set (cleared r)) (c.raised.ensures ∙ raised-here r c.requires.0 set)

@@ -2,7 +2,7 @@
 use mathlib.Core.Path.{◌≡◌, sym, ◌∙◌}
 use mathlib.Core.Bool.{true, false}
 use native.Mathlib.Omega.{arith}
-use borrow.Author.Count.{below_none, below_more}
+use borrow.Author.Count.{below_more}
 use Rattle.sets.proofs.Tests.{all-use, all-make, not-both, is_false}
 use Rattle.differences.specs.Table.{table_fits}
 use Rattle.differences.specs.Lent.{table_at}
@@ -12,14 +12,11 @@ use Rattle.live.proofs.Formed.{formed}
 use Rattle.live.proofs.Lent.{inside, fits-at}
 use Rattle.live.proofs.Auction.tables_fit.Goals as goal
 
-pub loop-k-init : goal.loop-k-init
-loop-k-init c = (omega arith, below_none _)
-
 pub overflow_mul-a : goal.overflow_mul-a
 overflow_mul-a c = omega (arith, (formed c.args.self c.requires.0).max_bidders)
 
-pub overflow_add-b : goal.overflow_add-b
-overflow_add-b c = omega (arith, (formed c.args.self c.requires.0).max_bidders)
+pub overflow_add-a : goal.overflow_add-a
+overflow_add-a c = omega (arith, (formed c.args.self c.requires.0).max_bidders)
 
 pub offset_bounds-tables-a : goal.offset_bounds-tables-a
 offset_bounds-tables-a c = omega (arith, (formed c.args.self c.requires.0).max_bidders)
@@ -44,10 +41,10 @@ loop-k-preserved c =
     let k = c.loop-k.k in
     let yes : table_fits a.self.items (table_at a.tables.now k) ≡ true =
     sym (c.fits.ensures ∙ fits-at a.self a.tables.now c.requires.0 c.requires.1 k c.loop-k-test.true) ∙ c.if-not-fits.false in
-    (omega arith, below_more _ k c.loop-k.invariant.1 yes)
+    below_more _ k c.loop-k.invariant yes
 
 pub returns : goal.returns
 unfolding tables_fit
 returns c =
     let a = c.args in
-    sym (all-make a.self.bidders (λ k. table_fits a.self.items (table_at a.tables.now k)) (λ j l. c.loop-k.invariant.1 j (omega (arith, l, c.loop-k-test.false))))
+    sym (all-make a.self.bidders (λ k. table_fits a.self.items (table_at a.tables.now k)) (λ j l. c.loop-k.invariant j (omega (arith, l, c.loop-k-test.false))))

@@ -21,12 +21,12 @@ returns c =
       prices = r.prices;
       floors = r.floors;
       sets = set r.sets (b - 1) new;
-      nulls = c.add_bidder.result;
-      reported = c.with_bidder.result;
+      nulls = c.add.result;
+      reported = c.with.result;
       phase = r.phase;
       raised = r.raised;
       lowered = r.lowered;
     })
     (with_report r b (saying n new)) refl refl refl refl refl
-    c.add_bidder.ensures
-    c.with_bidder.ensures refl refl refl
+    c.add.ensures
+    c.with.ensures refl refl refl
