@@ -219,7 +219,9 @@ fits-any m n start floors bids q fitting = fitting
 
 -- what `named` answers to the rounds and prices of a close
 module _ (a : Accepted) (u k : ℕ) (p : List ℕ) (r : Closing)
-    (named : (q : List ℕ) → length q ≡ a.items → p ≡ places 32 q → FitsAt (accepted.sheet a) q (assignment_at (accepted.sheet a) q) → r ≡ named_at (accepted.sheet a) u k q)
+    (named : (q : List ℕ) → length q ≡ a.items → p ≡ places 32 q
+    → FitsAt (sheet_above a.items a.bidders q a.floors.now a.bids.now) q (assignment_at (sheet_above a.items a.bidders q a.floors.now a.bids.now) q)
+    → r ≡ named_at (sheet_above a.items a.bidders q a.floors.now a.bids.now) u k q)
     (ep : p ≡ places 32 (close (accepted.sheet a)).prices) where
   abbrev s : Sheet
   s = accepted.sheet a
@@ -228,7 +230,9 @@ module _ (a : Accepted) (u k : ℕ) (p : List ℕ) (r : Closing)
   within = (accepted-within a.items a.bidders a.start.now a.floors.now a.bids.now a.accepted).1
 
   closing-is : r ≡ named_at s u k (close s).prices
-  closing-is = named (close s).prices long ep fitting
+  closing-is =
+      named (close s).prices long ep (fits-any a.items a.bidders a.start.now a.floors.now a.bids.now (close s).prices fitting)
+      ∙ named-any a.items a.bidders a.start.now a.floors.now a.bids.now u k (close s).prices
     where
       c : rule.Closing s
       c = closing s within

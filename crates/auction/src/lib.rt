@@ -24,7 +24,7 @@ fn furthest(a: &[u16; 32], b: &[u16; 32]) -> u32
     for (x, y) in a.iter().zip(b) {
         most = prices::larger(most, prices::over(*x, *y));
     }
-    u32::from(most)
+    prices::wide(most)
 }
 
 // The rounds to the close, and the closing prices.
@@ -193,8 +193,9 @@ impl<'a> Accepted<'a> {
     // surplus, which was found with it. Neither the order of the rounds nor the start is asked for.
     fn named(&self, path: Path) -> Closing
         ensures { (q : List ℕ) → length q ≡ self.now.items → path.prices ≡ places 32 q
-            → FitsAt (sheet self.now) q (assignment_at (sheet self.now) q)
-            → result ≡ named_at (sheet self.now) path.raised path.lowered q }
+            → FitsAt (sheet_above self.now.items self.now.bidders q self.now.floors.now self.now.bids.now) q
+            (assignment_at (sheet_above self.now.items self.now.bidders q self.now.floors.now self.now.bids.now) q)
+            → result ≡ named_at (sheet_above self.now.items self.now.bidders q self.now.floors.now self.now.bids.now) path.raised path.lowered q }
     {
         let d = demands::demands_at(&path.prices, self.bids, self.items, self.bidders);
         let low = prices::in_places(self.floors);

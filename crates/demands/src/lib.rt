@@ -34,7 +34,10 @@ pub fn surplus_of(prices: &[u16; 32], line: &[u16]) -> u16
 fn demanded(bid: u16, price: u16, top: u16) -> bool
     ensures { result ≡ ltb 0 bid && eqb bid (price + top) }
 {
-    bid != 0 && price <= bid && bid - price == top
+    if bid == 0 || bid < price {
+        return false;
+    }
+    bid - price == top
 }
 
 // A demand: whether null, and which items; and the highest surplus, which each of these options has.
@@ -53,6 +56,14 @@ fn demand_of(prices: &[u16; 32], line: &[u16]) -> Demand
         × (result.items ≡ (demand (length line.now) prices.now line.now).items)
         × (result.surplus ≡ surplus (length line.now) prices.now line.now) }
 {
+    // No line is longer. The test tells the compiler so, which then takes several items at a time.
+    if 32 < line.len() {
+        return Demand {
+            null: false,
+            items: 0,
+            surplus: 0,
+        };
+    }
     let top = highest(prices, line);
     let mut items: u32 = 0;
     for (i, bid) in line.iter().enumerate() {

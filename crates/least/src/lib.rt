@@ -81,10 +81,10 @@ impl Paths {
         let mut low = u16::MAX;
         for (x, &bid) in line.iter().enumerate() {
             let old = self.dist[x];
-            let d = (u + prices[x]).saturating_sub(bid).min(old);
+            let d = prices::smaller((u + prices[x]).saturating_sub(bid), old);
             self.via[x] = if_same(d, old, self.via[x], j);
             self.dist[x] = d;
-            low = low.min(if_same(self.left[x], 0, u16::MAX, d));
+            low = prices::smaller(low, if_same(self.left[x], 0, u16::MAX, d));
         }
         low
     }
@@ -173,7 +173,7 @@ impl Paths {
         while h != 0 {
             let line = bids::row(bids, items, h - 1);
             let reach = self.enter(&outcome.prices, line, next);
-            let nearer = reach.u.min(null);
+            let nearer = prices::smaller(reach.u, null);
             last = if_same(nearer, null, last, next);
             null = nearer;
             next = self.nearest(items, reach.low, null);

@@ -13,7 +13,7 @@ fn price_sum(items: usize, prices: &[u16; 32]) -> u32
 {
     let mut sum = 0;
     for price in &prices[..items] {
-        sum += u32::from(*price);
+        sum += prices::wide(*price);
     }
     sum
 }

@@ -16,8 +16,7 @@ use std::array;
 pub fn add<S: Set>(set: S, number: usize, on: bool) -> S
     ensures { S.bits result ≡ set_of S.width (λ k. has (S.bits set) k || (on && eqb k number)) }
 {
-    let joins = if on { number } else { 0 };
-    set.with(joins)
+    if on { set.with(number) } else { set.with(0) }
 }
 
 // The item sets of the bidders who do not say null.

@@ -16,10 +16,10 @@ loop-x-preserved c =
     let a = c.args in
     let at = c.loop-x in
     let lt : at.x < 64 = omega arith in (
-      reached-more a.u a.j a.line.now a.prices.now a.self.now.dist a.self.now.via at.x at.self.dist at.self.via lt at.invariant.0 c.saturating_sub.result c.min-d.result c.if_same.result
-          c.saturating_sub.ensures c.min-d.ensures (same_or _ _ _ _ _ c.if_same.ensures),
-      lowest-more at.self.dist at.self.left at.x at.low c.min-d.result c.if_same-in-loop-x.result c.min-low.result (omega (arith, lt, at.invariant.0.long_dist)) at.invariant.1
-          (same_or _ _ _ _ _ c.if_same-in-loop-x.ensures) c.min-low.ensures (omega (arith, c.min-low.ensures, at.invariant.2)),
-      omega (arith, c.min-low.ensures, at.invariant.2),
+      reached-more a.u a.j a.line.now a.prices.now a.self.now.dist a.self.now.via at.x at.self.dist at.self.via lt at.invariant.0 c.saturating_sub.result c.smaller-d.result c.if_same.result
+          c.saturating_sub.ensures c.smaller-d.ensures (same_or _ _ _ _ _ c.if_same.ensures),
+      lowest-more at.self.dist at.self.left at.x at.low c.smaller-d.result c.if_same-in-loop-x.result c.smaller-low.result (omega (arith, lt, at.invariant.0.long_dist)) at.invariant.1
+          (same_or _ _ _ _ _ c.if_same-in-loop-x.ensures) c.smaller-low.ensures (omega (arith, c.smaller-low.ensures, at.invariant.2)),
+      omega (arith, c.smaller-low.ensures, at.invariant.2),
       at.invariant.3,
     )

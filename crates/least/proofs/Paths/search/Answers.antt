@@ -50,7 +50,7 @@ at-h-requires-in-loop-h c =
     let at = c.loop-h in
     let e = c.enter-reach in
     let s = seek-next r at.invariant.1 at.h at.invariant.0 (omega (arith, c.loop-h-test.true)) c.row-line.result.now c.row-line.ensures.0 e.new.self.dist e.new.self.via e.new.self.left e.result.u e.result.low e.ensures
-    c.min-nearer.result c.if_same-last.result c.nearest-next-in-loop-h.result c.min-nearer.ensures (same_or _ _ _ _ _ c.if_same-last.ensures) c.nearest-next-in-loop-h.ensures in
+    c.smaller-nearer.result c.if_same-last.result c.nearest-next-in-loop-h.result c.smaller-nearer.ensures (same_or _ _ _ _ _ c.if_same-last.ensures) c.nearest-next-in-loop-h.ensures in
     omega (arith, next_small r s, r.table.max_items)
 
 pub loop-h-smaller : goal.loop-h-smaller
@@ -65,7 +65,7 @@ loop-h-preserved c =
     let e = c.enter-reach in (
       c.at-h-in-loop-h.ensures,
       seek-next c.requires.0 at.invariant.1 at.h at.invariant.0 (omega (arith, c.loop-h-test.true)) c.row-line.result.now c.row-line.ensures.0 e.new.self.dist e.new.self.via e.new.self.left e.result.u e.result.low e.ensures
-          c.min-nearer.result c.if_same-last.result c.nearest-next-in-loop-h.result c.min-nearer.ensures (same_or _ _ _ _ _ c.if_same-last.ensures) c.nearest-next-in-loop-h.ensures,
+          c.smaller-nearer.result c.if_same-last.result c.nearest-next-in-loop-h.result c.smaller-nearer.ensures (same_or _ _ _ _ _ c.if_same-last.ensures) c.nearest-next-in-loop-h.ensures,
     )
 
 pub returns : goal.returns

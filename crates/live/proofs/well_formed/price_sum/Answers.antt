@@ -30,7 +30,7 @@ loop-price-preserved c =
     let p : List ℕ = c.args.prices.now in
     let n = long p c.args.items c.told-prices c.requires in
     let l : at.price-index < c.args.items = omega (arith, n, c.loop-price-test.true) in
-    let e = c.from-sum.ensures in
+    let e = c.wide-sum.ensures in
     let small = c.fits-prices at.price-index in
     (omega (arith, at.invariant.0, e, sum_more p c.args.items at.price-index l), omega (arith, at.invariant.1, e, small, get_or-take c.args.items p at.price-index 0 l))
 
